@@ -1,0 +1,5 @@
+pub mod FileLemmas
+mod Entries
+pub mod Moments
+mod Pasts
+mod Torn
