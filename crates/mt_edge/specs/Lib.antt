@@ -1,0 +1,4 @@
+pub mod Memory
+pub mod MemoryDoor
+pub mod Spawner
+pub mod Stream

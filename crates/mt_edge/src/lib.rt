@@ -1,0 +1,47 @@
+//! The outside: what is read from, written to and asked, as traits with a written meaning.
+//!
+//! - `source`, `sink`, `both`: streams of bytes, with counted faults.
+//! - `clock`, `door`, `spawner`: moments, links to serve, and children that run tasks.
+//! - `whole`, `joined`: a write of a whole piece, and a source and a sink that lie apart as one link.
+//! - `mem_source`, `mem_sink`, `mem_link`, `mem_door`, `never_fails`, `fixed_clock`, `no_door`, `no_spawner`: the forms in memory.
+//! - `specs/Stream`, `specs/Spawner`, `specs/Memory`, `specs/MemoryDoor`: what each call does, by its answer.
+#![tactic(auto)]
+
+mod both;
+mod clock;
+mod door;
+mod fixed_clock;
+mod joined;
+mod mem_door;
+mod mem_link;
+mod mem_sink;
+mod mem_source;
+mod never_fails;
+mod no_door;
+mod no_spawner;
+mod script;
+mod sink;
+mod source;
+mod spawner;
+mod task;
+#[cfg(test)]
+mod tests;
+mod whole;
+
+pub use both::Both;
+pub use clock::{Clock, LAST_MOMENT};
+pub use door::Door;
+pub use fixed_clock::FixedClock;
+pub use joined::Joined;
+pub use mem_door::MemDoor;
+pub use mem_link::MemLink;
+pub use mem_sink::MemSink;
+pub use mem_source::MemSource;
+pub use never_fails::NeverFails;
+pub use no_door::NoDoor;
+pub use no_spawner::NoSpawner;
+pub use sink::{Sink, WriteStep};
+pub use source::{ReadStep, Source};
+pub use spawner::Spawner;
+pub use task::{Asset, Made, Polled, Raw, RecordFile, Run, Start, Ticket};
+pub use whole::{SinkFault, write_all};
