@@ -1,0 +1,3 @@
+pub mod LogImage
+pub mod LogState
+pub mod Stage

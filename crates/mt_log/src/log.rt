@@ -1,0 +1,65 @@
+//! The log as a value: where it ends on its disk, and how long it may get.
+use mt_disk::FileNo;
+use std::marker::Model;
+
+/// The bytes that a log begins with.
+pub(crate) const MAGIC: u64 = 8;
+
+/// What a record has beside its payload: gate, length and MD5.
+pub(crate) const RECORD_HEAD: u64 = 1 + 4 + 16;
+
+/// A log of payloads on a disk, which is handed to each call anew. It holds no payload itself.
+#[derive(Drop)]
+pub struct Log {
+    pub(crate) file: FileNo,
+    pub(crate) gate: u64,
+    pub(crate) limit: u64,
+    pub(crate) closed: bool,
+}
+
+impl Model for Log {
+    ghost use Rattle.std.specs.Prelude.{◌<◌, ◌+◌, ◌^◌};
+    ghost use Rattle.mt_log.specs.LogState.{LogState};
+
+    ghost Value = { LogState };
+
+    ghost view = { λ l. record { file = l.file; gate = l.gate; limit = l.limit; closed = l.closed } };
+
+    ghost invariant = { λ l. l.gate + 1 < 2 ^ 64 };
+}
+
+impl Log {
+    ghost use Rattle.std.specs.Prelude.{◌≡◌, ◌↔◌, ◌+◌, IsTrue, length};
+    ghost use Rattle.mt_log.specs.LogImage.{log_magic};
+    ghost use Rattle.mt_log.specs.LogState.{HasRoom};
+
+    /// The bytes of the log with its closed gate.
+    pub fn len(&self) -> u64
+        ensures { result ≡ self.now.gate + 1 }
+    {
+        self.gate + 1
+    }
+
+    /// The place of the first record, or of the closed gate where there is none.
+    pub fn first(&self) -> u64
+        ensures { result ≡ length log_magic }
+    {
+        MAGIC
+    }
+
+    /// Whether the limit lets in a payload of so many bytes.
+    pub fn has_room(&self, payload: u64) -> bool
+        ensures { IsTrue result ↔ HasRoom self.now payload }
+    {
+        self.limit > self.gate
+            && self.limit - self.gate > RECORD_HEAD
+            && self.limit - self.gate - RECORD_HEAD > payload
+    }
+
+    /// Whether the log takes no more, since a call of the disk failed. It is to be opened again.
+    pub fn is_closed(&self) -> bool
+        ensures { result ≡ self.now.closed }
+    {
+        self.closed
+    }
+}
