@@ -1,0 +1,10 @@
+pub mod Below
+pub mod Children
+pub mod Components
+pub mod Cuts
+pub mod Fronts
+pub mod Judged
+pub mod Orders
+pub mod Outcomes
+pub mod Printed
+pub mod Texts

@@ -1,0 +1,5 @@
+use Rattle.mt_path.proofs.Judged.{AreNames-from_names_of}
+use Rattle.mt_path.proofs.path.Path.parse.Goals as goal
+
+pub path_of-requires : goal.path_of-requires
+path_of-requires c = AreNames-from_names_of _ _ _ c.in_ok-target_names.ensures

@@ -1,0 +1,3 @@
+pub mod AccountPath
+pub mod Names
+pub mod PathOrder

@@ -1,0 +1,10 @@
+//! The lengths that paths and logins keep, in bytes.
+
+/// The text of a path behind its login, as `/stor/a/b`.
+pub const LONGEST_PATH: usize = 1_024;
+
+/// One component.
+pub const LONGEST_COMPONENT: usize = 255;
+
+/// A login.
+pub const LONGEST_LOGIN: usize = 64;
