@@ -1,0 +1,127 @@
+//! The head of a message, read byte by byte: no byte after it is taken.
+ghost use Rattle.std.specs.Prelude.{◌≡◌, ◌↔◌, IsTrue};
+ghost use Rattle.httparse.specs.Grammar.{LineEnd, print_end};
+ghost use Rattle.mt_http.specs.Framing.{EndsWithEmptyLine};
+ghost use Rattle.mt_http.specs.Reading.{EndsAfter, IsHeadFront, ReadsByte, ReadsHead, TakesByte};
+
+use mt_edge::{ReadStep, Source};
+use std::alloc::Global;
+
+/// The empty lines before a head and the head have no more bytes than this together.
+const HEAD_LIMIT: usize = 65_536;
+
+/// What one more byte of a source was.
+#[derive(Clone, Copy)]
+pub(crate) enum ByteRead {
+    Byte(u8),
+    End,
+    Fault,
+}
+
+fn read_byte<S: Source>(source: &mut S) -> ByteRead
+    ensures stays { S.source_stays source.old source.new }
+    ensures read { ReadsByte (S.left source.old) (S.read_faults source.old)
+        result (S.left source.new) (S.read_faults source.new) }
+{
+    let mut one = [0];
+    match source.read(&mut one) {
+        ReadStep::Took(_) => ByteRead::Byte(one[0]),
+        ReadStep::End => ByteRead::End,
+        ReadStep::Failed => ByteRead::Fault,
+    }
+}
+
+/// How far a head has come.
+#[derive(Clone, Copy)]
+pub(crate) enum Taken {
+    /// It goes on.
+    More,
+    /// It is whole.
+    Whole,
+    Memory,
+}
+
+fn is_empty_line(bytes: &[u8]) -> bool
+    ensures { IsTrue result ↔ ((line : LineEnd) × (bytes.now ≡ print_end line)) }
+{
+    match bytes {
+        [b'\n'] | [b'\r', b'\n'] => true,
+        _ => false,
+    }
+}
+
+fn ends_with_empty_line(bytes: &[u8]) -> bool
+    ensures { IsTrue result ↔ EndsWithEmptyLine bytes.now }
+{
+    bytes.ends_with(b"\n\n") || bytes.ends_with(b"\n\r\n")
+}
+
+// One more byte of a head. An empty line before it is dropped.
+fn take_byte(head: &mut Vec<u8>, byte: u8) -> Taken
+    requires { IsHeadFront head.old.items }
+    ensures { TakesByte head.old.items byte result head.new.items }
+{
+    if head.push(byte).is_err() {
+        return Taken::Memory;
+    }
+    if is_empty_line(head.as_slice()) {
+        head.clear();
+        return Taken::More;
+    }
+    if ends_with_empty_line(head.as_slice()) {
+        Taken::Whole
+    } else {
+        Taken::More
+    }
+}
+
+/// What became of a head.
+#[derive(Drop)]
+pub(crate) enum HeadRead {
+    /// A head, with the empty line that ends it. The source stands behind it.
+    Whole(Vec<u8>),
+    /// The source ended before a head began.
+    End,
+    /// The source ended within a head.
+    Truncated,
+    /// No head ends within the limit.
+    TooLong,
+    SourceFault,
+    Memory,
+}
+
+// The source ended after these bytes of a head.
+fn ended(head: &[u8]) -> HeadRead
+    ensures { EndsAfter head.now result }
+{
+    match head {
+        [] | [b'\r'] => HeadRead::End,
+        _ => HeadRead::Truncated,
+    }
+}
+
+/// Reads the head at the front of a source, and the empty lines before it. A head takes memory in proportion
+/// to its length.
+pub(crate) fn read_head<S: Source>(alloc: Global, source: &mut S) -> HeadRead
+    ensures stays { S.source_stays source.old source.new }
+    ensures read { ReadsHead (S.left source.old) (S.read_faults source.old)
+        result (S.left source.new) (S.read_faults source.new) }
+{
+    let mut head = Vec::new(alloc);
+    for _count in 0..HEAD_LIMIT {
+        match read_byte(source) {
+            ByteRead::Byte(byte) => match take_byte(&mut head, byte) {
+                Taken::More => {}
+                Taken::Whole => return HeadRead::Whole(head),
+                Taken::Memory => return HeadRead::Memory,
+            },
+            ByteRead::End => return ended(head.as_slice()),
+            ByteRead::Fault => return HeadRead::SourceFault,
+        }
+    }
+    match read_byte(source) {
+        ByteRead::Byte(_) => HeadRead::TooLong,
+        ByteRead::End => ended(head.as_slice()),
+        ByteRead::Fault => HeadRead::SourceFault,
+    }
+}
