@@ -1,0 +1,41 @@
+-- What a device hands on through an adapter that counts its faults.
+use Rattle.std.specs.Prelude.{ℕ, ◌+◌, min, List, take, Option, Result, Ok, Err}
+use Rattle.std.specs.Io.KnownBytes.{Consumes, Appends, Keeps, IsAtEnd}
+use Rattle.mt_edge.specs.declared.source.ReadStep.{ReadStep}
+use Rattle.mt_edge.specs.declared.source.ReadStep.TheVariants as read
+use Rattle.mt_edge.specs.declared.sink.WriteStep.{WriteStep}
+use Rattle.mt_edge.specs.declared.sink.WriteStep.TheVariants as write
+
+-- a device, and how often a call of it has failed
+pub record CountedState (D : Type 0) : Type 0 where
+  pub device : D
+  pub faults : ℕ
+
+-- a count that ends at 2 ^ 64 - 1, after one fault more
+abbrev pub one_more : ℕ → ℕ
+one_more faults = min 18446744073709551615 (faults + 1)
+
+-- the count after a call that answered so: a fault is counted exactly where the call fails
+abbrev pub faults_after_read : ℕ → ReadStep → ℕ
+faults_after_read faults (read.Took n) = faults
+faults_after_read faults read.End = faults
+faults_after_read faults read.Failed = one_more faults
+
+abbrev pub faults_after_write : ℕ → WriteStep → ℕ
+faults_after_write faults (write.Took n) = faults
+faults_after_write faults write.Failed = one_more faults
+
+abbrev pub faults_after : {T E : Type 0} → ℕ → Result T E → ℕ
+faults_after faults (Ok x) = faults
+faults_after faults (Err e) = one_more faults
+
+-- a read into a piece, where the device knows what is left: what it gave came into the piece, and nothing is lost
+abbrev pub HandsOn : Option (List ℕ) → List ℕ → ReadStep → Option (List ℕ) → Type 0
+HandsOn left into (read.Took n) left' = Consumes left left' (take n into)
+HandsOn left into read.End left' = Keeps left left' × IsAtEnd left'
+HandsOn left into read.Failed left' = Keeps left left'
+
+-- a write of a piece, where the device knows what it holds: what it took was appended, and nothing else
+abbrev pub HandsOut : Option (List ℕ) → List ℕ → WriteStep → Option (List ℕ) → Type 0
+HandsOut got piece (write.Took n) got' = Appends got got' (take n piece)
+HandsOut got piece write.Failed got' = Keeps got got'

@@ -1,0 +1,17 @@
+//! The real ends of the store: files, streams and the system's clock, each over its trait. None tells what it holds.
+//!
+//! - `file_disk`: the three files of a store, in a folder.
+//! - `counted`: standard input and output, or any other reader and writer, with counted faults.
+//! - `system_clock`: the moment that the system tells.
+//! - `specs/Device`: what a device hands on.
+#![tactic(auto)]
+
+mod counted;
+mod file_disk;
+mod system_clock;
+#[cfg(test)]
+mod tests;
+
+pub use counted::{Counted, StdSink, StdSource};
+pub use file_disk::FileDisk;
+pub use system_clock::SystemClock;
