@@ -1,0 +1,7 @@
+mod Completeness
+mod Currents
+mod Histories
+mod Runs
+mod Steps
+mod Tops
+mod Answering

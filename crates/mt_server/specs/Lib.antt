@@ -1,0 +1,13 @@
+pub mod Answer
+pub mod Answered
+pub mod EngineState
+pub mod Outcomes
+pub mod ReplyText
+pub mod Responded
+pub mod Sides
+pub mod Store
+pub mod Stored
+pub mod Transcript
+pub mod Words
+pub mod Statuses
+pub mod Guarantees

@@ -1,0 +1,156 @@
+//! The engine: the objects of an account, and the log that they are made from.
+ghost use Rattle.std.specs.Prelude.{◌≡◌, ◌≢◌, ◌+◌, ◌≤◌, ◌<◌, ◌^◌, ℕ, [], Err, Option, option_map, is_some, length, IfOk, OnOk, OnErr, IsErrOf, false, IsTrue, ◌↔◌, Bool};
+ghost use Rattle.std.specs.Option.{ForSome};
+ghost use Rattle.mt_base.specs.Counts.{Rose, NeverFell};
+ghost use Rattle.mt_disk.specs.CrashModel.{IsAtRest, LeavesOnly, Untouched};
+ghost use Rattle.mt_log.specs.LogImage.{Fit, SameLog};
+ghost use Rattle.mt_log.specs.LogState.{HasRoom, Stands, told};
+ghost use Rattle.mt_server.specs.EngineState.{IsCurrent, IsHistoryOf, Accepts, Writes, has_room, told_images};
+ghost use Rattle.std.specs.Prelude.{◌⊎◌};
+ghost use Rattle.std.specs.Ordering.{nat_cmp};
+ghost use Rattle.std.specs.Cmp.Lexicographic.{slice_cmp};
+ghost use Rattle.std.specs.BTreeMap.{insert_entry};
+ghost use Rattle.mt_server.specs.Store.{History, IsPut, made_by, most_commands, object_at, payload_of, step};
+
+use crate::accepted::Accepted;
+use crate::object::Object;
+use crate::put::{Put, encode};
+use crate::types::Engine;
+use mt_base::Bytes;
+use mt_disk::Disk;
+use mt_log::{AppendError, Log, OpenError};
+use std::alloc::{AllocError, Global};
+use std::collections::BTreeMap;
+
+/// The largest number of commands of an account.
+const MOST_COMMANDS: u64 = (1 << 50) - 1;
+
+impl Engine {
+    /// Opens the log of a disk, which may get `limit` bytes long.
+    pub(crate) fn open<D: Disk>(
+        alloc: Global,
+        disk: &mut D,
+        limit: u64,
+    ) -> Result<Engine, OpenError>
+        requires rest { IsAtRest D.seen D.may_leave disk.old }
+        requires fit { ForSome (D.seen disk.old) Fit }
+        ensures current { (h : History) → IsHistoryOf (D.seen disk.old) h → IfOk result (λ engine. IsCurrent (is_some (D.seen disk.old)) (D.seen disk.new) engine h) }
+        ensures limit { IfOk result (λ engine. engine.log.limit ≡ limit) }
+        ensures live { IfOk result (λ engine. engine.log.closed ≡ false) }
+        ensures stands { IfOk result (λ engine. Stands D.seen D.may_leave disk.new engine.log) }
+        ensures same { result ≢ Err OpenError.Disk → told (D.seen disk.new) ≡ told (D.seen disk.old) }
+        ensures untouched { IsErrOf result OpenError.NotBuilt → Untouched D.seen D.may_leave D.moment D.left_since disk.old disk.new }
+        ensures not_built { IsErrOf result OpenError.NotBuilt → ForSome (D.seen disk.old) (λ files. files.head ≢ []) }
+        ensures made { OnOk result (ForSome (D.seen disk.old) (λ files. files.head ≡ [])) }
+        ensures any_moment { ForSome (D.seen disk.old) (λ files. LeavesOnly D.moment D.left_since disk.old disk.new (SameLog files)) }
+        ensures disk { IsErrOf result OpenError.Disk → Rose (D.faults disk.old) (D.faults disk.new) }
+        ensures faults { NeverFell (D.faults disk.old) (D.faults disk.new) }
+    {
+        let log = Log::open(disk, limit)?;
+        Ok(Engine {
+            log,
+            rows: BTreeMap::new(alloc),
+            count: 0,
+        })
+    }
+
+    /// The number of commands so far.
+    pub(crate) fn position(&self) -> u64
+        ensures result_is { result ≡ self.now.state.count }
+        ensures small { result < 2 ^ 50 }
+    {
+        self.count
+    }
+
+    /// The object of a name.
+    pub(crate) fn find(&self, name: &Bytes) -> Option<&Object>
+        ensures { option_map (λ o. o.now) result ≡ object_at self.now.state name.now }
+    {
+        self.rows.get(name)
+    }
+
+    // Whether one command more is let in, whose payload has so many bytes.
+    fn has_room(&self, payload: u64) -> bool
+        ensures { result ≡ has_room self.now payload }
+    {
+        self.count < MOST_COMMANDS && self.log.has_room(payload)
+    }
+
+    // The state after a put. Where memory is wanted it stays.
+    fn change(&mut self, put: Put) -> Result<(), AllocError>
+        requires room { self.old.state.count < most_commands }
+        requires put { IsPut put }
+        ensures changed { OnOk result (self.new ≡ record self.old { state = step self.old.state put }) }
+        ensures err { OnErr result (self.new ≡ self.old) }
+    {
+        let object = Object {
+            number: self.count * 4096,
+            content_type: put.content_type,
+            body: put.body,
+            mtime: put.moment,
+        };
+        insert_row(&mut self.rows, put.name, object)?;
+        self.count += 1;
+        Ok(())
+    }
+
+    // Appends a payload that there is room for.
+    fn write<D: Disk>(&mut self, disk: &mut D, payload: &[u8]) -> Accepted
+        requires stands { Stands D.seen D.may_leave disk.old self.old.log }
+        requires is_open { self.old.log.closed ≡ false }
+        requires room { HasRoom self.old.log (length payload.now) }
+        requires small { length payload.now < 2 ^ 32 }
+        ensures written { (tells : Bool) → Writes payload.now (D.seen disk.old) self.old (D.faults disk.old) result (D.seen disk.new) self.new (D.faults disk.new)
+            (told_images tells (D.may_leave disk.new)) }
+        ensures stands { Stands D.seen D.may_leave disk.new self.new.log }
+        ensures limit { self.new.log.limit ≡ self.old.log.limit }
+        ensures live { result ≢ Accepted.DiskFault → self.new.log.closed ≡ false }
+    {
+        match self.log.append(disk, payload) {
+            Ok(_) => Accepted::Added,
+            Err(AppendError::Closed) => unreachable!(),
+            Err(AppendError::Full) => unreachable!(),
+            Err(AppendError::Disk) => Accepted::DiskFault,
+        }
+    }
+
+    /// Adds a command. All memory is taken before the first write, and the state is changed before it too: after
+    /// a fault of the disk the log is closed, and the state is not to be used.
+    pub(crate) fn accept<D: Disk>(&mut self, alloc: Global, disk: &mut D, put: Put) -> Accepted
+        requires stands { Stands D.seen D.may_leave disk.old self.old.log }
+        requires is_open { self.old.log.closed ≡ false }
+        requires put { IsPut put }
+        ensures accepted { (tells : Bool) (h : History) → IsCurrent tells (D.seen disk.old) self.old h →
+            Accepts tells h put (D.seen disk.old) self.old (D.faults disk.old) result (D.seen disk.new) self.new (D.faults disk.new)
+            (told_images tells (D.may_leave disk.new)) }
+        ensures stands { Stands D.seen D.may_leave disk.new self.new.log }
+        ensures limit { self.new.log.limit ≡ self.old.log.limit }
+        ensures live { result ≢ Accepted.DiskFault → self.new.log.closed ≡ false }
+    {
+        let payload = match encode(alloc, &put) {
+            Ok(payload) => payload,
+            Err(_) => return Accepted::Memory,
+        };
+        let bytes = payload.as_slice();
+        if !self.has_room(bytes.len() as u64) {
+            return Accepted::Full;
+        }
+        match self.change(put) {
+            Ok(()) => self.write(disk, bytes),
+            Err(_) => Accepted::Memory,
+        }
+    }
+}
+
+// An object under its name, in place of the one that stood there.
+fn insert_row(
+    rows: &mut BTreeMap<Bytes, Object>,
+    name: Bytes,
+    object: Object,
+) -> Result<(), AllocError>
+    ensures ok { OnOk result (rows.new.entries ≡ insert_entry (slice_cmp nat_cmp) rows.old.entries name object) }
+    ensures err { OnErr result (rows.new.entries ≡ rows.old.entries) }
+{
+    rows.insert(name, object)?;
+    Ok(())
+}

@@ -1,0 +1,262 @@
+//! What a message asks for.
+ghost use Rattle.std.specs.Prelude.{◌≡◌, ◌&&◌, ◌||◌, ◌==◌, not, nat_le, codes, length, map, filter, IfOk, option_map, option_copied, unwrap_or};
+ghost use Rattle.std.specs.List.{list_all, list_any, slice_split};
+ghost use Rattle.mt_server.specs.Answer.{asked_for, asks_for_more, asks_to_close, begins_with_close, closes, content_type_of, first_value, has_close, is_blank, is_dots, is_later_name, is_name, is_name_byte, is_object_kind, is_plain, is_visible, kind_text, makes_object, name_at, route_of, says_close, skip_blanks, stor_of};
+ghost use Rattle.mt_http.specs.Message.{is_named};
+
+use mt_base::Bytes;
+use mt_http::{Field, Message};
+use std::alloc::{AllocError, Global};
+
+/// What a message asks for, as far as it is built.
+#[derive(Debug, PartialEq, Eq, Drop)]
+pub enum Route {
+    /// Puts an object of this name and content type.
+    PutObject(Bytes, Bytes),
+    /// Asks for the object of this name.
+    GetObject(Bytes),
+    NotBuilt,
+}
+
+/// The content type of an object that came without one.
+const OCTET_STREAM: &[u8] = b"application/octet-stream";
+
+fn is_blank_byte(byte: u8) -> bool
+    ensures { result ≡ is_blank byte }
+{
+    byte == b' ' || byte == b'\t'
+}
+
+// The bytes from the first that is no blank.
+fn without_blanks(bytes: &[u8]) -> &[u8]
+    ensures { result.now ≡ skip_blanks bytes.now }
+{
+    for at in 0..bytes.len() {
+        if !is_blank_byte(bytes[at]) {
+            return &bytes[at..];
+        }
+    }
+    &[]
+}
+
+fn are_blanks(bytes: &[u8]) -> bool
+    ensures { result ≡ list_all is_blank bytes.now }
+{
+    bytes.iter().all(|byte| is_blank_byte(*byte))
+}
+
+fn begins_with_close(word: &[u8]) -> bool
+    ensures { result ≡ begins_with_close word.now }
+{
+    if word.len() < 5 {
+        return false;
+    }
+    word[..5].eq_ignore_ascii_case(b"close")
+}
+
+// Whether a word is `close`, in any case, among blanks.
+fn is_close(word: &[u8]) -> bool
+    ensures { result ≡ says_close word.now }
+{
+    let word = without_blanks(word);
+    if !begins_with_close(word) {
+        return false;
+    }
+    word.len() <= 5 || are_blanks(&word[5..])
+}
+
+fn has_close(value: &[u8]) -> bool
+    ensures { result ≡ has_close value.now }
+{
+    value.split(|byte| *byte == b',').any(|word| is_close(word))
+}
+
+fn closes_after(field: &Field) -> bool
+    ensures { result ≡ asks_to_close field.now }
+{
+    field.name.as_str() == "connection" && has_close(field.value.as_slice())
+}
+
+fn any_closes(fields: &[Field]) -> bool
+    ensures { result ≡ list_any asks_to_close fields.now }
+{
+    fields.iter().any(closes_after)
+}
+
+/// Whether no message follows this one on its connection.
+pub(crate) fn is_last(message: &Message) -> bool
+    ensures { result ≡ closes message.now }
+{
+    message.minor == 0 || any_closes(message.fields.as_slice())
+}
+
+// The value of the first field of a name.
+fn value_of<'a>(fields: &'a [Field], name: &str) -> Option<&'a [u8]>
+    ensures { option_map (λ v. v.now) result ≡ first_value name.now fields.now }
+{
+    for field in fields {
+        if field.name.as_str() == name {
+            return Some(field.value.as_slice());
+        }
+    }
+    None
+}
+
+fn is_later(name: &str) -> bool
+    ensures { result ≡ is_later_name name.now }
+{
+    name == "content-md5"
+        || name == "range"
+        || name == "if-match"
+        || name == "if-none-match"
+        || name == "if-modified-since"
+        || name == "if-unmodified-since"
+        || name == "expect"
+        || name == "connection"
+}
+
+fn may_be_in_name(byte: u8) -> bool
+    ensures { result ≡ is_name_byte byte }
+{
+    byte.is_ascii_alphanumeric() || byte == b'_' || byte == b'-' || byte == b'.'
+}
+
+fn are_name_bytes(name: &[u8]) -> bool
+    ensures { result ≡ list_all is_name_byte name.now }
+{
+    name.iter().all(|byte| may_be_in_name(*byte))
+}
+
+fn is_dots(name: &[u8]) -> bool
+    ensures { result ≡ is_dots name.now }
+{
+    name == b".".as_slice() || name == b"..".as_slice()
+}
+
+// Whether the bytes are a name that an object may have.
+fn is_object_name(name: &[u8]) -> bool
+    ensures { result ≡ is_name name.now }
+{
+    1 <= name.len() && name.len() <= 255 && are_name_bytes(name) && !is_dots(name)
+}
+
+// The front of every target that names an object of this login.
+fn front_of(alloc: Global, login: &str) -> Result<Vec<u8>, AllocError>
+    ensures { IfOk result (λ front. front.items ≡ stor_of login.now) }
+{
+    let mut front = Vec::with_capacity(alloc, 7 + login.len())?;
+    front.extend_from_slice(b"/")?;
+    front.extend_from_slice(login.as_bytes())?;
+    front.extend_from_slice(b"/stor/")?;
+    Ok(front)
+}
+
+// The name behind a front, if the rest of the target is one.
+fn name_behind<'a>(front: &[u8], target: &'a [u8]) -> Option<&'a [u8]>
+    ensures { option_map (λ name. name.now) result ≡ name_at front.now target.now }
+{
+    if target.len() < front.len() {
+        return None;
+    }
+    let (begin, name) = target.split_at(front.len());
+    if begin == front && is_object_name(name) {
+        Some(name)
+    } else {
+        None
+    }
+}
+
+fn kind_of(alloc: Global, value: &[u8]) -> Result<Vec<u8>, AllocError>
+    ensures { IfOk result (λ kind. kind.items ≡ kind_text value.now) }
+{
+    value
+        .iter()
+        .filter(|byte| !is_blank_byte(**byte))
+        .map(|byte| byte.to_ascii_lowercase())
+        .collect(alloc)
+}
+
+fn is_kind_of_object(kind: &[u8]) -> bool
+    ensures { result ≡ is_object_kind kind.now }
+{
+    !(kind == b"application/json;type=directory".as_slice()
+        || kind == b"application/x-json-stream;type=directory".as_slice()
+        || kind == b"application/json;type=link".as_slice())
+}
+
+fn is_visible(byte: u8) -> bool
+    ensures { result ≡ is_visible byte }
+{
+    32 <= byte && byte <= 126
+}
+
+fn are_visible(value: &[u8]) -> bool
+    ensures { result ≡ list_all is_visible value.now }
+{
+    value.iter().all(|byte| is_visible(*byte))
+}
+
+// Whether a put with this content type makes an object.
+fn is_object_type(alloc: Global, value: &[u8]) -> Result<bool, AllocError>
+    ensures { IfOk result (λ is. is ≡ makes_object value.now) }
+{
+    let kind = kind_of(alloc, value)?;
+    Ok(is_kind_of_object(&kind) && value.len() <= 255 && are_visible(value))
+}
+
+fn any_later(fields: &[Field]) -> bool
+    ensures { result ≡ list_any asks_for_more fields.now }
+{
+    fields.iter().any(|field| is_later(field.name.as_str()))
+}
+
+fn content_type(message: &Message) -> &[u8]
+    ensures { result.now ≡ content_type_of message.now }
+{
+    match value_of(message.fields.as_slice(), "content-type") {
+        Some(value) => value,
+        None => OCTET_STREAM,
+    }
+}
+
+// Whether the head asks for what is built, apart from its method and target.
+fn is_plain_head(alloc: Global, message: &Message) -> Result<bool, AllocError>
+    ensures { IfOk result (λ is. is ≡ is_plain message.now) }
+{
+    if message.minor != 1 {
+        return Ok(false);
+    }
+    Ok(is_object_type(alloc, content_type(message))? && !any_later(message.fields.as_slice()))
+}
+
+fn route_for(
+    alloc: Global,
+    method: &str,
+    content_type: &[u8],
+    name: &[u8],
+) -> Result<Route, AllocError>
+    ensures { IfOk result (λ r. r ≡ asked_for method.now content_type.now name.now) }
+{
+    if method == "PUT" {
+        let name = Bytes::from_slice(alloc, name)?;
+        return Ok(Route::PutObject(name, Bytes::from_slice(alloc, content_type)?));
+    }
+    if method == "GET" {
+        return Ok(Route::GetObject(Bytes::from_slice(alloc, name)?));
+    }
+    Ok(Route::NotBuilt)
+}
+
+/// What a message asks for.
+pub(crate) fn read_route(alloc: Global, login: &str, message: &Message) -> Result<Route, AllocError>
+    ensures { IfOk result (λ r. r ≡ route_of login.now message.now) }
+{
+    if !is_plain_head(alloc, message)? {
+        return Ok(Route::NotBuilt);
+    }
+    let front = front_of(alloc, login)?;
+    match name_behind(&front, message.target.as_slice()) {
+        Some(name) => route_for(alloc, message.method.as_str(), content_type(message), name),
+        None => Ok(Route::NotBuilt),
+    }
+}
