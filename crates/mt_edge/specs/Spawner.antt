@@ -4,7 +4,7 @@ use Rattle.std.specs.List.{AllZip, list_any, Contains}
 use Rattle.std.specs.declared.alloc.AllocError.{AllocError}
 use Rattle.std.specs.Io.KnownBytes.{IsAtEnd}
 use Rattle.mt_base.specs.Counts.{RoseBy}
-use Rattle.mt_edge.specs.declared.task.Raw.{Raw}
+use Rattle.mt_types.specs.declared.task.Raw.{Raw}
 use Rattle.mt_edge.specs.declared.task.Start.{Start}
 use Rattle.mt_edge.specs.declared.task.Start.TheVariants as start
 use Rattle.mt_edge.specs.declared.task.Polled.{Polled}

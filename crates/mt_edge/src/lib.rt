@@ -43,5 +43,5 @@ pub use no_spawner::NoSpawner;
 pub use sink::{Sink, WriteStep};
 pub use source::{ReadStep, Source};
 pub use spawner::Spawner;
-pub use task::{Asset, Made, Polled, Raw, RecordFile, Run, Start, Ticket};
+pub use task::{Polled, Start, Ticket};
 pub use whole::{SinkFault, write_all};

@@ -1,5 +1,6 @@
 //! A spawner that starts nothing.
-use crate::{Polled, Run, Source, Spawner, Start, Ticket};
+use crate::{Polled, Source, Spawner, Start, Ticket};
+use mt_types::Run;
 use std::alloc::{AllocError, Global};
 use std::marker::Model;
 

@@ -1,13 +1,14 @@
 //! What starts tasks.
-use crate::{Polled, Run, Source, Start, Ticket};
+use crate::{Polled, Source, Start, Ticket};
+use mt_types::Run;
 use std::alloc::{AllocError, Global};
 
 /// Children that run beside each other: started, polled and killed. A call that ends in want of memory leaves
 /// no ticket of its own, and no call touches a ticket but the one that it names.
 pub trait Spawner {
     ghost use Rattle.std.specs.Prelude.{◌≡◌, ℕ, List, true};
-    ghost use Rattle.mt_edge.specs.declared.task.Run.{Run};
-    ghost use Rattle.mt_edge.specs.declared.task.Raw.{Raw};
+    ghost use Rattle.mt_types.specs.declared.task.Run.{Run};
+    ghost use Rattle.mt_types.specs.declared.task.Raw.{Raw};
     ghost use Rattle.mt_edge.specs.Spawner.{Seen, Starts, StartCause, Polls, Kills, lives};
 
     /// What decides which raw outcome a run may give: no call changes it.

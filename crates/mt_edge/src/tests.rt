@@ -4,6 +4,7 @@ ghost use Rattle.std.specs.Option.{ForSome};
 
 use crate::*;
 use mt_base::{Sequence, Text};
+use mt_types::Run;
 use std::alloc::Global;
 use std::test::Fail;
 
