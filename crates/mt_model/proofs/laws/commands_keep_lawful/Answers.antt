@@ -1,0 +1,22 @@
+use Rattle.std.proofs.Common.{ℕ}
+use Rattle.mt_types.specs.declared.body.Body.{Body}
+use Rattle.mt_model.proofs.LawfulSteps.{Lawful-abort_upload, Lawful-add_inputs, Lawful-cancel, Lawful-delete, Lawful-end_input, Lawful-finish, Lawful-link, Lawful-make_directory, Lawful-new_job, Lawful-new_upload, Lawful-put}
+use Rattle.mt_model.proofs.laws.commands_keep_lawful.Goals as goal
+
+abbrev size : Body → ℕ
+size b = b.len
+
+pub returns : goal.returns
+returns c = record {
+  put = λ path content_type body durability metadata moment is s law room e. Lawful-put size s law path content_type body durability metadata moment is e;
+  make_directory = λ path moment is s law room e. Lawful-make_directory size s law path moment is e;
+  link = λ path source moment is s law room e. Lawful-link size s law path source moment is e;
+  delete = λ path moment s law room e. Lawful-delete size s law path moment e;
+  new_job = λ document moment s law room e. Lawful-new_job size s law document moment room;
+  add_inputs = λ job lines moment s law room e. Lawful-add_inputs size s law job lines moment e;
+  end_input = λ job moment s law room e. Lawful-end_input size s law job moment e;
+  finish = λ job moment s law room e. Lawful-finish size s law job moment e;
+  cancel = λ job moment s law room e. Lawful-cancel size s law job moment e;
+  new_upload = λ path content_type moment is s law room e. Lawful-new_upload size s law path content_type moment is e;
+  abort_upload = λ upload moment s law room e. Lawful-abort_upload size s law upload moment;
+}

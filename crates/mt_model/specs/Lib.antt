@@ -1,0 +1,17 @@
+pub mod Limits
+pub mod Names
+pub mod Rows
+pub mod Listing
+pub mod Feed
+pub mod Tasks
+pub mod Sound
+pub mod State
+pub mod Resolve
+pub mod JobSteps
+pub mod UploadSteps
+pub mod CommandStep
+pub mod Lawful
+pub mod Meaning
+pub mod Bodies
+pub mod Laws
+pub mod Worked

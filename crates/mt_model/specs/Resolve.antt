@@ -1,0 +1,122 @@
+-- What a commit makes of the records of a task.
+use Rattle.std.specs.Prelude.{ℕ, ◌+◌, Bool, not, ◌&&◌, List, [], ◌∷◌, ◌++◌, codes, Option, Some, None, is_some, Result, Ok, Err, if◌then◌else◌}
+use Rattle.std.specs.List.{fold, list_any}
+use Rattle.mt_path.specs.AccountPath.{AccountPath}
+use Rattle.mt_types.specs.declared.job.Item.{Item}
+use Rattle.mt_types.specs.declared.job.Outcome.{Outcome}
+use Rattle.mt_types.specs.declared.job.Outcome.TheVariants as outcome
+use Rattle.mt_types.specs.declared.object.Entry.TheVariants as entry
+use Rattle.mt_types.specs.declared.object.Object.{Object}
+use Rattle.mt_types.specs.declared.task.Fate.{Fate}
+use Rattle.mt_types.specs.declared.task.Fate.TheVariants as fate
+use Rattle.mt_types.specs.declared.task.TaskFailure.{TaskFailure}
+use Rattle.mt_types.specs.declared.task.TaskFailure.TheVariants.{TaskPlaceRefused, TaskObjectMissing}
+use Rattle.mt_types.specs.declared.task.TaskRecord.{TaskRecord}
+use Rattle.mt_types.specs.declared.task.TaskRecord.TheVariants.{Emit, Keep, Ref}
+use Rattle.mt_model.specs.Names.{anonymous_place, is_task_place, number_at, paths_above}
+use Rattle.mt_model.specs.Rows.{Rows, at, with_row, is_directory, object_at}
+
+-- the task that is committed: its job, its phase, what its outputs' names begin with, the position and the moment
+pub record Committing : Type 0 where
+  pub job : ℕ
+  pub phase : ℕ
+  pub root : List ℕ
+  pub position : ℕ
+  pub moment : ℕ
+
+-- how far the records have been taken
+pub record Taken (B : Type 0) : Type 0 where
+  pub rows : Rows B
+  -- the outputs so far
+  pub items : List (Item B)
+  -- how many objects were made
+  pub made : ℕ
+
+-- what a commit leaves
+pub record Resolved (B : Type 0) : Type 0 where
+  pub rows : Rows B
+  pub outcome : Outcome B
+
+-- the content type of what tasks make
+abbrev pub task_content_type : List ℕ
+task_content_type = codes "application/octet-stream"
+
+-- the next step, where nothing was refused
+abbrev pub and_then : {X Y : Type 0} → (X → Result Y TaskFailure) → Result X TaskFailure → Result Y TaskFailure
+and_then next (Ok x) = next x
+and_then next (Err failure) = Err failure
+
+module _ {B : Type 0} where
+  -- an object stands at a path
+  abbrev pub is_object_at : Rows B → AccountPath → Bool
+  is_object_at rows p = is_some (object_at rows p)
+
+  -- a task of this job may make an object there: no directory stands there, and no object above it
+  abbrev pub can_hold_object : Rows B → ℕ → AccountPath → Bool
+  can_hold_object rows job p =
+      is_task_place job p.area p.parts && not (is_directory (at rows p)) && not (list_any (is_object_at rows) (paths_above p))
+
+  -- with a directory at a path where nothing stands
+  abbrev pub with_directory : ℕ → Rows B → AccountPath → Rows B
+  with_directory moment rows p = if is_some (at rows p) then rows else with_row rows p (entry.Directory moment)
+
+  -- with the directories above a path that are missing
+  abbrev pub with_parents : Rows B → AccountPath → ℕ → Rows B
+  with_parents rows p moment = fold (with_directory moment) rows (paths_above p)
+
+  -- a new object of a task
+  abbrev pub task_object : ℕ → B → ℕ → Object B
+  task_object number body moment =
+      record { number = number; body = body; content_type = task_content_type; durability = None; metadata = []; mtime = moment }
+
+  -- the number of the next object
+  abbrev pub next_number : Committing → Taken B → ℕ
+  next_number c t = number_at c.position t.made
+
+  -- with an object at a place
+  abbrev pub kept : Committing → AccountPath → B → Taken B → Taken B
+  kept c place body t = record t {
+    rows = with_row (with_parents t.rows place c.moment) place (entry.Object (task_object (next_number c t) body c.moment));
+    made = t.made + 1;
+  }
+
+  -- with one more output
+  abbrev pub given_on : Committing → AccountPath → B → Option ℕ → Taken B → Taken B
+  given_on c name body reducer t =
+      record t { items = t.items ++ record { name = name; root = c.root; body = body; reducer = reducer } ∷ [] }
+
+  -- an object at a place that can hold it
+  abbrev pub take_placed : Committing → AccountPath → B → Taken B → Result (Taken B) TaskFailure
+  take_placed c place body t = if can_hold_object t.rows c.job place then Ok (kept c place body t) else Err TaskPlaceRefused
+
+  -- where an output without a place is to stand
+  abbrev pub fresh_place : Committing → Taken B → AccountPath
+  fresh_place c t = anonymous_place c.job c.root c.phase (next_number c t)
+
+  -- an output that is an object that stands there
+  abbrev pub take_reference : Committing → AccountPath → Taken B → Option (Object B) → Result (Taken B) TaskFailure
+  take_reference c name t None = Err TaskObjectMissing
+  take_reference c name t (Some object) = Ok (given_on c name object.body None t)
+
+  -- one record
+  abbrev pub take_record : Committing → Taken B → TaskRecord B → Result (Taken B) TaskFailure
+  take_record c t (Emit None reducer body) = Ok (given_on c (fresh_place c t) body reducer (kept c (fresh_place c t) body t))
+  take_record c t (Emit (Some place) reducer body) =
+      and_then (λ new. Ok (given_on c place body reducer new)) (take_placed c place body t)
+  take_record c t (Keep place body) = take_placed c place body t
+  take_record c t (Ref name) = take_reference c name t (object_at t.rows name)
+
+  -- the records in order, up to the first that is refused
+  abbrev pub take_records : Committing → List (TaskRecord B) → Result (Taken B) TaskFailure → Result (Taken B) TaskFailure
+  take_records c [] t = t
+  take_records c (r ∷ rs) t = take_records c rs (and_then (λ x. take_record c x r) t)
+
+  -- what was taken, or the rows as they were
+  abbrev pub resolved : Rows B → Result (Taken B) TaskFailure → Resolved B
+  resolved rows (Ok t) = record { rows = t.rows; outcome = outcome.Good t.items }
+  resolved rows (Err failure) = record { rows = rows; outcome = outcome.Bad failure 0 [] }
+
+  -- what the commit of a fate leaves: all of its records, or none
+  abbrev pub resolve : Committing → Rows B → Fate B → Resolved B
+  resolve c rows (fate.Good records) = resolved rows (take_records c records (Ok (record { rows = rows; items = []; made = 0 })))
+  resolve c rows (fate.Bad failure status stderr) = record { rows = rows; outcome = outcome.Bad failure status stderr }
