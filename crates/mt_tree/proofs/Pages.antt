@@ -1,0 +1,30 @@
+-- A page of a directory is one of the map of its area.
+use Rattle.std.proofs.Common.{◌≡◌, ℕ, List, map, take, refl, sym, ap, subst, ◌∙◌}
+use Rattle.std.specs.Prelude.{All}
+use Rattle.std.specs.List.{filter}
+use Rattle.std.specs.Map.{keys_of}
+use Rattle.mt_path.specs.AccountPath.{IsPath}
+use Rattle.mt_path.specs.declared.area.Area.{Area}
+use Rattle.mt_path.specs.declared.area.Area.TheVariants.{Stor, Public, Jobs}
+use Rattle.mt_model.specs.Listing.{is_from, listing}
+use Rattle.mt_model.specs.Rows.{row_of}
+use Rattle.mt_tree.specs.declared.areas.Areas.{Areas}
+use Rattle.mt_tree.specs.declared.kept.KeptRow.{KeptRow}
+use Rattle.mt_tree.specs.Areas.{all_of, map_of}
+use Rattle.mt_tree.specs.Kept.{Parts, in_area, rows_of}
+use Rattle.mt_tree.proofs.ChildrenIn.{children-joined}
+use Rattle.mt_tree.proofs.Joined.{Entries, part, path_in}
+use Rattle.mt_tree.proofs.Shown.{paths-part}
+
+module _ {B : Type 0} (areas : Areas B) (area : Area) where
+  pub map-is : map_of areas area ≡ part area areas.stor.entries areas.public.entries areas.jobs.entries
+  map-is = elim area as (λ a. map_of areas a ≡ part a areas.stor.entries areas.public.entries areas.jobs.entries) [ Stor ↦ refl | Public ↦ refl | Jobs ↦ refl ]
+
+  module _ (es : Entries (KeptRow B)) (is : es ≡ map_of areas area) where
+    pub paths-of : All IsPath (keys_of (all_of areas)) → All IsPath (keys_of (rows_of (in_area area es)))
+    paths-of all = subst (λ entries. All IsPath (keys_of (rows_of (in_area area entries)))) (sym (is ∙ map-is)) (paths-part area areas.stor.entries areas.public.entries areas.jobs.entries all)
+
+    pub page-of : (parts : Parts) (m : List ℕ) (limit : ℕ) → map row_of (listing (rows_of (in_area area es)) (path_in area parts) m limit) ≡ map row_of (listing (all_of areas) (path_in area parts) m limit)
+    page-of parts m limit =
+        ap (λ entries. map row_of (listing (rows_of (in_area area entries)) (path_in area parts) m limit)) (is ∙ map-is)
+        ∙ ap (λ found. map row_of (take limit (filter (λ r. is_from m r.0) found))) (sym (children-joined area parts areas.stor.entries areas.public.entries areas.jobs.entries))

@@ -1,0 +1,90 @@
+//! The rows of an account, in a map an area.
+ghost use Rattle.std.specs.Prelude.{◌≡◌, true, false, IfOk, OnOk, OnErr, Some, None, is_some, option_copied};
+ghost use Rattle.std.specs.Map.{lookup};
+ghost use Rattle.mt_path.specs.AccountPath.{AccountPath, parent_of};
+ghost use Rattle.mt_model.specs.Rows.{at, first_rows, is_directory, is_path, remove_refusal, with_row, without_row};
+ghost use Rattle.mt_tree.specs.Areas.{all_of, kept_of, map_of};
+ghost use Rattle.mt_tree.specs.Kept.{IsKept};
+
+use crate::kept::{Kept, KeptRow, insert_kept, remove_kept, root_alone};
+use mt_types::{Area, Bytes, Entry, Path};
+use std::alloc::{AllocError, Global};
+
+/// The rows of an account.
+#[derive(Drop)]
+pub struct Areas<B> {
+    /// Those of `stor`.
+    pub stor: Kept<B>,
+    /// Those of `public`.
+    pub public: Kept<B>,
+    /// Those of `jobs`.
+    pub jobs: Kept<B>,
+}
+
+impl<B> Areas<B> {
+    /// The three roots, made at moment 0.
+    pub fn new(alloc: Global) -> Result<Areas<B>, AllocError>
+    where
+        B: Drop,
+        ensures rows { IfOk result (λ areas. all_of areas ≡ first_rows) }
+        ensures kept { IfOk result (λ areas. IsKept (kept_of areas)) }
+    {
+        Ok(Areas {
+            stor: root_alone(alloc)?,
+            public: root_alone(alloc)?,
+            jobs: root_alone(alloc)?,
+        })
+    }
+
+    /// The map of an area.
+    pub fn map(&self, area: Area) -> &Kept<B>
+        ensures { result.now.entries ≡ map_of self.now area }
+    {
+        match area {
+            Area::Stor => &self.stor,
+            Area::Public => &self.public,
+            Area::Jobs => &self.jobs,
+        }
+    }
+
+    /// The row at the path of these components.
+    pub fn get(&self, area: Area, parts: &[Bytes]) -> Option<&KeptRow<B>>
+        ensures { option_copied result ≡ lookup (is_path (record { area = area; parts = parts.now })) (kept_of self.now) }
+    {
+        self.map(area).get(parts)
+    }
+
+    /// Puts an entry without children at a path, in the place of the one that stood there.
+    pub fn insert(&mut self, path: Path, entry: Entry<B>) -> Result<(), AllocError>
+    where
+        B: Drop,
+        requires kept { IsKept (kept_of self.old) }
+        requires parent { (d : AccountPath) → parent_of path ≡ Some d → is_directory (at (all_of self.old) d) ≡ true }
+        requires free { is_directory (at (all_of self.old) path) ≡ false }
+        ensures ok { OnOk result (all_of self.new ≡ with_row (all_of self.old) path entry) }
+        ensures err { OnErr result (all_of self.new ≡ all_of self.old) }
+        ensures kept { IsKept (kept_of self.new) }
+    {
+        match path.area() {
+            Area::Stor => insert_kept(&mut self.stor, path.into_parts(), entry),
+            Area::Public => insert_kept(&mut self.public, path.into_parts(), entry),
+            Area::Jobs => insert_kept(&mut self.jobs, path.into_parts(), entry),
+        }
+    }
+
+    /// Removes the row at a path.
+    pub fn remove(&mut self, path: &Path)
+    where
+        B: Drop,
+        requires kept { IsKept (kept_of self.old) }
+        requires allowed { remove_refusal (all_of self.old) path.now ≡ None }
+        ensures removed { all_of self.new ≡ without_row (all_of self.old) path.now }
+        ensures kept { IsKept (kept_of self.new) }
+    {
+        match path.area() {
+            Area::Stor => remove_kept(&mut self.stor, path.parts()),
+            Area::Public => remove_kept(&mut self.public, path.parts()),
+            Area::Jobs => remove_kept(&mut self.jobs, path.parts()),
+        }
+    }
+}
