@@ -1,0 +1,5 @@
+pub mod Answered
+pub mod Found
+pub mod Joined
+pub mod RangeTexts
+pub mod TagTexts

@@ -1,0 +1,4 @@
+pub mod Conditions
+pub mod Fields
+pub mod Range
+pub mod Tags
