@@ -1,0 +1,14 @@
+pub mod Commands
+pub mod Digests
+pub mod Forms
+pub mod JobForms
+pub mod Known
+pub mod Loops
+pub mod Marks
+pub mod Metadata
+pub mod Options
+pub mod Paths
+pub mod Sizes
+pub mod Utf8
+pub mod Weaker
+pub mod Whole

@@ -1,0 +1,49 @@
+//! Laws of commands as bytes.
+ghost use Rattle.std.specs.Prelude.{◌≡◌, ◌≤◌, ◌++◌, false, List, ℕ, length, IfOk, IfErr};
+ghost use Rattle.mt_types.specs.declared.body.Body.{Body};
+ghost use Rattle.mt_types.specs.declared.command.Command.{Command};
+ghost use Rattle.mt_codec.specs.Spelling.{HasSpelling, IsWithinLimits, spelling, undigested};
+ghost use Rattle.mt_codec.specs.Pieces.{is_piece, size_bound};
+
+use crate::decoding::decode;
+use crate::encoding::encode;
+use crate::error::DecodeError;
+use mt_types::{Body, Command};
+use std::alloc::Global;
+
+/// A command that is encoded is decoded again, apart from the digests of its bodies.
+pub fn decoded_again(alloc: Global, command: &Command<Body>) -> Result<Command<Body>, DecodeError>
+    requires { HasSpelling command.now }
+    ensures again { IfOk result (λ c. c ≡ undigested command.now) }
+    ensures memory { IfErr result (λ e. e ≡ DecodeError.Memory) }
+{
+    let bytes = encode(alloc, command)?;
+    decode(alloc, &bytes)
+}
+
+/// Commands with one spelling are one, apart from digests, and digests are not spelled.
+pub fn one_spelling()
+    ensures alike { (c d : Command Body) → HasSpelling c → HasSpelling d → spelling c ≡ spelling d → undigested c ≡ undigested d }
+    ensures digests { (c : Command Body) → spelling (undigested c) ≡ spelling c }
+{}
+
+/// Bytes that begin with a command begin with that command alone: no spelling begins another.
+pub fn no_spelling_begins_another()
+    ensures { (c d : Command Body) (xs ys : List ℕ) → HasSpelling c → HasSpelling d
+        → spelling c ++ xs ≡ spelling d ++ ys → (undigested c ≡ undigested d) × (xs ≡ ys) }
+{}
+
+/// What has a spelling is within its limits, so a command that was decoded may be encoded.
+pub fn spelled_within_limits()
+    ensures { (c : Command Body) → HasSpelling c → IsWithinLimits c }
+{}
+
+/// How many bytes a command has at most, by its fields.
+pub fn sizes()
+    ensures { (c : Command Body) → HasSpelling c → length (spelling c) ≤ size_bound c }
+{}
+
+/// No command is a piece.
+pub fn no_command_is_a_piece()
+    ensures { (c : Command Body) → is_piece (spelling c) ≡ false }
+{}
