@@ -1,8 +1,14 @@
+pub mod Bodies
+pub mod BodyReadings
+pub mod BodySteps
+pub mod ChunkLines
 pub mod EndsWith
 pub mod FramingLemmas
 pub mod Heads
+pub mod MessageLaws
 pub mod Places
 pub mod ReadBody
 pub mod ReadHead
 pub mod ReadMessage
+pub mod ReplyLines
 pub mod Requests

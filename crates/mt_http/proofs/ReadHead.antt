@@ -8,7 +8,7 @@ use Rattle.mt_edge.specs.Stream.{LeftAfter}
 use Rattle.mt_edge.proofs.Streams.{left_after, if_some_before}
 use Rattle.mt_http.specs.declared.head.HeadRead.{HeadRead}
 use Rattle.mt_http.specs.declared.head.HeadRead.TheVariants as read
-use Rattle.mt_http.specs.Framing.{head_limit, HasNoHead, Place, End, Truncated, Bad, PlaceAt}
+use Rattle.mt_http.specs.Framing.{head_limit, HasNoHead, EndsInHead, HasLongHead, End, PlaceAt}
 use Rattle.mt_http.specs.Reading.{IsHeadFront, IsLineFront, EndsAfter, ReadsHead}
 use Rattle.mt_http.proofs.Heads.{front_is_no_head, long_no_head, begun_not_lines}
 
@@ -24,50 +24,48 @@ read_on left lines head mid b left' more new count before size byte makes =
     )
 
 -- what stands at the front of all that was left
-ended_place : (p : Place) (left : Option (List ℕ)) (bytes : List ℕ) (left' : Option (List ℕ)) → LeftAfter left bytes left' → IfSome left' (λ rest. rest ≡ []) → PlaceAt bytes p → IfSome left (λ all. PlaceAt all p)
-ended_place p left bytes None before none stands = if_some_before (λ all. PlaceAt all p) left bytes None before tt
-ended_place p left bytes (Some rest) before none stands = if_some_before (λ all. PlaceAt all p) left bytes (Some rest) before (subst (λ all. PlaceAt all p) (sym (ap (λ r. bytes ++ r) none ∙ append-nil bytes)) stands)
+ended_place : (P : List ℕ → Type 0) (left : Option (List ℕ)) (bytes : List ℕ) (left' : Option (List ℕ)) → LeftAfter left bytes left' → IfSome left' (λ rest. rest ≡ []) → P bytes → IfSome left P
+ended_place P left bytes None before none stands = if_some_before P left bytes None before tt
+ended_place P left bytes (Some rest) before none stands = if_some_before P left bytes (Some rest) before (subst P (sym (ap (λ r. bytes ++ r) none ∙ append-nil bytes)) stands)
 
 end_at : (lines : List LineEnd) (front : List ℕ) → length (print_blank lines ++ front) ≤ head_limit → IsLineFront front → PlaceAt (print_blank lines ++ front) End
 unfolding PlaceAt
 end_at lines front few (inl none) = (few, (lines, inl (ap (λ l. print_blank lines ++ l) none ∙ append-nil (print_blank lines))))
 end_at lines front few (inr cr) = (few, (lines, inr (ap (λ l. print_blank lines ++ l) cr)))
 
-truncated_at : (lines : List LineEnd) (front : List ℕ) → length (print_blank lines ++ front) ≤ head_limit → IsHeadFront front → ¬ (IsLineFront front) → PlaceAt (print_blank lines ++ front) Truncated
-unfolding PlaceAt
-truncated_at lines front few unfinished begun = inl (record {
+truncated_at : (lines : List LineEnd) (front : List ℕ) → length (print_blank lines ++ front) ≤ head_limit → IsHeadFront front → ¬ (IsLineFront front) → EndsInHead (print_blank lines ++ front)
+truncated_at lines front few unfinished begun = record {
   no_head = front_is_no_head lines front unfinished;
   few = few;
   begun = begun_not_lines lines front unfinished begun;
-})
+}
 
 -- the source ended within a head
 pub head_ended : (left : Option (List ℕ)) (faults : ℕ) (lines : List LineEnd) (front : List ℕ) (r : HeadRead) (left' : Option (List ℕ)) (faults' : ℕ)
     → LeftAfter left (print_blank lines ++ front) left' → length (print_blank lines ++ front) ≤ head_limit → IsHeadFront front → IfSome left' (λ rest. rest ≡ []) → NeverFell faults faults' → EndsAfter front r
     → (last : Option (List ℕ)) → ReadsHead left faults r last faults'
-head_ended left faults lines front read.End left' faults' before few unfinished none never blank last = (ended_place End left (print_blank lines ++ front) left' before none (end_at lines front few blank), never)
-head_ended left faults lines front read.Truncated left' faults' before few unfinished none never begun last = (ended_place Truncated left (print_blank lines ++ front) left' before none (truncated_at lines front few unfinished begun), never)
+head_ended left faults lines front read.End left' faults' before few unfinished none never blank last = (ended_place (λ all. PlaceAt all End) left (print_blank lines ++ front) left' before none (end_at lines front few blank), never)
+head_ended left faults lines front read.Truncated left' faults' before few unfinished none never begun last = (ended_place EndsInHead left (print_blank lines ++ front) left' before none (truncated_at lines front few unfinished begun), never)
 head_ended left faults lines front (read.Whole bytes) left' faults' before few unfinished none never no_case last = absurd no_case
 head_ended left faults lines front read.TooLong left' faults' before few unfinished none never no_case last = absurd no_case
 head_ended left faults lines front read.SourceFault left' faults' before few unfinished none never no_case last = absurd no_case
 head_ended left faults lines front read.Memory left' faults' before few unfinished none never no_case last = absurd no_case
 
-too_long_at : (lines : List LineEnd) (front : List ℕ) (b : ℕ) (rest : List ℕ) → length (print_blank lines ++ front) ≡ head_limit → IsHeadFront front → PlaceAt (((print_blank lines ++ front) ++ b ∷ []) ++ rest) Bad
-unfolding PlaceAt
+too_long_at : (lines : List LineEnd) (front : List ℕ) (b : ℕ) (rest : List ℕ) → length (print_blank lines ++ front) ≡ head_limit → IsHeadFront front → HasLongHead (((print_blank lines ++ front) ++ b ∷ []) ++ rest)
 too_long_at lines front b rest full unfinished =
     let bytes = print_blank lines ++ front in
     let e = append_assoc bytes (b ∷ []) rest in
-    inl (record {
+    record {
       no_head = subst HasNoHead (sym e) (long_no_head bytes (b ∷ rest) (front_is_no_head lines front unfinished) (omega (arith, full)));
       many = omega (arith, full, ap length e, length-append bytes (b ∷ rest));
-    })
+    }
 
 -- another byte stands behind the limit
 pub head_too_long : (left : Option (List ℕ)) (lines : List LineEnd) (front : List ℕ) (mid : Option (List ℕ)) (b : ℕ) (left' : Option (List ℕ))
-    → LeftAfter left (print_blank lines ++ front) mid → length (print_blank lines ++ front) ≡ head_limit → IsHeadFront front → LeftAfter mid (b ∷ []) left' → IfSome left (λ all. PlaceAt all Bad)
+    → LeftAfter left (print_blank lines ++ front) mid → length (print_blank lines ++ front) ≡ head_limit → IsHeadFront front → LeftAfter mid (b ∷ []) left' → IfSome left HasLongHead
 head_too_long left lines front mid b left' before full unfinished byte =
-    if_some_before (λ all. PlaceAt all Bad) left ((print_blank lines ++ front) ++ b ∷ []) left' (left_after left (print_blank lines ++ front) mid (b ∷ []) left' before byte) (each left')
+    if_some_before HasLongHead left ((print_blank lines ++ front) ++ b ∷ []) left' (left_after left (print_blank lines ++ front) mid (b ∷ []) left' before byte) (each left')
   where
-    each : (o : Option (List ℕ)) → IfSome o (λ rest. PlaceAt (((print_blank lines ++ front) ++ b ∷ []) ++ rest) Bad)
+    each : (o : Option (List ℕ)) → IfSome o (λ rest. HasLongHead (((print_blank lines ++ front) ++ b ∷ []) ++ rest))
     each None = tt
     each (Some rest) = too_long_at lines front b rest full unfinished

@@ -1,14 +1,17 @@
 -- What stands at the front of a list of bytes, however they come: the end, a whole message, or a fault.
-use Rattle.std.specs.Prelude.{◌≡◌, ℕ, ◌<◌, ◌≤◌, ◌⊎◌, List, [], ◌∷◌, ◌++◌, length, Option, IfSome}
+use Rattle.std.specs.Prelude.{◌≡◌, ℕ, ◌<◌, ◌≤◌, ◌⊎◌, bytes_eq, codes, if◌then◌else◌, List, [], ◌∷◌, ◌++◌, length, Option, Some, None, Result, Ok, Err, IfSome}
 use Rattle.httparse.specs.Ascii.{line_feed, carriage_return}
 use Rattle.httparse.specs.Grammar.{LineEnd, print_end, print_blank, RequestHead, ReadsRequest}
 use Rattle.mt_base.specs.Counts.{Rose, NeverFell}
 use Rattle.mt_edge.specs.Stream.{LeftAfter}
-use Rattle.mt_http.specs.Message.{fields_of, message_of, framing}
+use Rattle.mt_http.specs.Body.{Told, body_at}
+use Rattle.mt_http.specs.Message.{head_of, message_of}
+use Rattle.mt_http.specs.declared.message.Ending.{Ending}
+use Rattle.mt_http.specs.declared.message.Ending.TheVariants as ending
+use Rattle.mt_http.specs.declared.message.Head.{Head}
 use Rattle.mt_http.specs.declared.message.Message.{Message}
-use Rattle.mt_http.specs.declared.message.Received.{Received}
-use Rattle.mt_http.specs.declared.message.Received.TheVariants as received
-use Rattle.mt_http.specs.declared.framing.Framing.TheVariants.{Refused, Sized}
+use Rattle.mt_http.specs.declared.message.MessageEnd.{MessageEnd}
+use Rattle.mt_http.specs.declared.message.MessageEnd.TheVariants as message_end
 
 -- the empty lines before a head and the head have no more bytes than this together
 abbrev pub head_limit : ℕ
@@ -18,9 +21,13 @@ head_limit = 65536
 abbrev pub field_limit : ℕ
 field_limit = 100
 
--- a body has no more bytes than this
-abbrev pub body_limit : ℕ
-body_limit = 16777216
+-- a body has no more bytes than this, by the request's method
+abbrev pub body_limit : List ℕ → ℕ
+body_limit method = if bytes_eq method (codes "PUT") then 1073741824 else 16777216
+
+-- how many bytes the body of a head may have
+abbrev pub limit_of : Head → ℕ
+limit_of head = body_limit head.method
 
 -- the first line is empty
 abbrev pub BeginsWithEmptyLine : List ℕ → Type 0
@@ -55,12 +62,17 @@ IsEmptyLines bytes = (lines : List LineEnd) × ((bytes ≡ print_blank lines) �
 abbrev pub IsRequestHeadOf : List ℕ → RequestHead → Type 0
 IsRequestHeadOf head h = ReadsRequest head h [] × (length h.fields ≤ field_limit)
 
--- the head h, then the rest, of which n bytes are the body
-pub record RequestAt (bytes : List ℕ) (h : RequestHead) (n : ℕ) (rest : List ℕ) : Type 0 where
-  pub head : List ℕ
-  pub stands : HeadAt bytes head rest
-  pub reads : IsRequestHeadOf head h
-  pub sized : framing (fields_of h) ≡ Sized n
+-- a head that is read, and then the rest
+pub record RequestAt (bytes : List ℕ) (head : Head) (rest : List ℕ) : Type 0 where
+  pub text : List ℕ
+  pub h : RequestHead
+  pub stands : HeadAt bytes text rest
+  pub reads : IsRequestHeadOf text h
+  pub says : head_of h ≡ Some head
+
+-- what these bytes are as the body of a head
+abbrev pub body_of : Head → List ℕ → Told
+body_of head bytes = body_at head.framing (limit_of head) bytes
 
 -- what stands at the front
 pub data Place : Type 0 where
@@ -73,15 +85,6 @@ pub record EndsInHead (bytes : List ℕ) : Type 0 where
   pub few : length bytes ≤ head_limit
   pub begun : ¬ (IsEmptyLines bytes)
 
--- the bytes end within a body
-pub record EndsInBody (bytes : List ℕ) : Type 0 where
-  pub h : RequestHead
-  pub n : ℕ
-  pub rest : List ℕ
-  pub request : RequestAt bytes h n rest
-  pub within : n ≤ body_limit
-  pub short : length rest < n
-
 -- the head is longer than any that is read
 pub record HasLongHead (bytes : List ℕ) : Type 0 where
   pub no_head : HasNoHead bytes
@@ -89,33 +92,32 @@ pub record HasLongHead (bytes : List ℕ) : Type 0 where
 
 -- the head is no request head, or its framing is refused
 pub record HasBadHead (bytes : List ℕ) : Type 0 where
-  pub head : List ℕ
+  pub text : List ℕ
   pub rest : List ℕ
-  pub stands : HeadAt bytes head rest
-  pub refused : (h : RequestHead) → IsRequestHeadOf head h → framing (fields_of h) ≡ Refused
+  pub stands : HeadAt bytes text rest
+  pub refused : (h : RequestHead) → IsRequestHeadOf text h → head_of h ≡ None
 
--- the body is longer than any that is read
-pub record HasLongBody (bytes : List ℕ) : Type 0 where
-  pub h : RequestHead
-  pub n : ℕ
+-- the head is read, and its body ends so
+pub record HasBody (bytes : List ℕ) (ending : Ending) : Type 0 where
+  pub head : Head
   pub rest : List ℕ
-  pub request : RequestAt bytes h n rest
-  pub above : body_limit < n
+  pub request : RequestAt bytes head rest
+  pub ends : (body_of head rest).ending ≡ ending
 
 -- a head and the whole body that it tells of
 pub record HasMessage (bytes : List ℕ) (message : Message) (rest : List ℕ) : Type 0 where
-  pub h : RequestHead
-  pub body : List ℕ
-  pub request : RequestAt bytes h (length body) (body ++ rest)
-  pub within : length body ≤ body_limit
-  pub is : message ≡ message_of h body
+  pub head : Head
+  pub behind : List ℕ
+  pub request : RequestAt bytes head behind
+  pub whole : body_of head behind ≡ record { body = message.body; ending = ending.Whole; rest = rest }
+  pub is : message ≡ message_of head message.body
 
 -- what stands at the front of these bytes
 unfoldable pub PlaceAt : List ℕ → Place → Type 0
 PlaceAt bytes End = (length bytes ≤ head_limit) × IsEmptyLines bytes
-PlaceAt bytes Truncated = EndsInHead bytes ⊎ EndsInBody bytes
-PlaceAt bytes Bad = HasLongHead bytes ⊎ HasBadHead bytes
-PlaceAt bytes TooLarge = HasLongBody bytes
+PlaceAt bytes Truncated = EndsInHead bytes ⊎ HasBody bytes ending.Truncated
+PlaceAt bytes Bad = (HasLongHead bytes ⊎ HasBadHead bytes) ⊎ HasBody bytes ending.Bad
+PlaceAt bytes TooLarge = HasBody bytes ending.TooLarge
 PlaceAt bytes (Whole message rest) = HasMessage bytes message rest
 
 -- no list of bytes has two places
@@ -126,12 +128,36 @@ PlaceIsOne = (bytes : List ℕ) (p q : Place) → PlaceAt bytes p → PlaceAt by
 abbrev pub Spells : List ℕ → Message → Type 0
 Spells used message = (rest : List ℕ) → PlaceAt (used ++ rest) (Whole message rest)
 
+-- these bytes are this head, whatever follows them
+abbrev pub SpellsHead : List ℕ → Head → Type 0
+SpellsHead used head = (rest : List ℕ) → RequestAt (used ++ rest) head rest
+
 -- what was read of a source: what was left and is left, and its count of faults before and after
-abbrev pub Receives : Option (List ℕ) → ℕ → Received → Option (List ℕ) → ℕ → Type 0
-Receives left faults (received.Whole message) left' faults' = ((used : List ℕ) × LeftAfter left used left' × Spells used message) × NeverFell faults faults'
-Receives left faults received.End left' faults' = IfSome left (λ bytes. PlaceAt bytes End) × NeverFell faults faults'
-Receives left faults received.Truncated left' faults' = IfSome left (λ bytes. PlaceAt bytes Truncated) × NeverFell faults faults'
-Receives left faults received.Bad left' faults' = IfSome left (λ bytes. PlaceAt bytes Bad) × NeverFell faults faults'
-Receives left faults received.TooLarge left' faults' = IfSome left (λ bytes. PlaceAt bytes TooLarge) × NeverFell faults faults'
-Receives left faults received.SourceFault left' faults' = Rose faults faults'
-Receives left faults received.Memory left' faults' = NeverFell faults faults'
+abbrev pub Receives : Option (List ℕ) → ℕ → Result Message MessageEnd → Option (List ℕ) → ℕ → Type 0
+Receives left faults (Ok message) left' faults' = ((used : List ℕ) × LeftAfter left used left' × Spells used message) × NeverFell faults faults'
+Receives left faults (Err message_end.End) left' faults' = IfSome left (λ bytes. PlaceAt bytes End) × NeverFell faults faults'
+Receives left faults (Err message_end.Truncated) left' faults' = IfSome left (λ bytes. PlaceAt bytes Truncated) × NeverFell faults faults'
+Receives left faults (Err message_end.Bad) left' faults' = IfSome left (λ bytes. PlaceAt bytes Bad) × NeverFell faults faults'
+Receives left faults (Err message_end.TooLarge) left' faults' = IfSome left (λ bytes. PlaceAt bytes TooLarge) × NeverFell faults faults'
+Receives left faults (Err message_end.SourceFault) left' faults' = Rose faults faults'
+Receives left faults (Err message_end.Memory) left' faults' = NeverFell faults faults'
+
+-- what was read of a head
+abbrev pub ReceivesHead : Option (List ℕ) → ℕ → Result Head MessageEnd → Option (List ℕ) → ℕ → Type 0
+ReceivesHead left faults (Ok head) left' faults' = ((used : List ℕ) × LeftAfter left used left' × SpellsHead used head) × NeverFell faults faults'
+ReceivesHead left faults (Err message_end.End) left' faults' = IfSome left (λ bytes. PlaceAt bytes End) × NeverFell faults faults'
+ReceivesHead left faults (Err message_end.Truncated) left' faults' = IfSome left EndsInHead × NeverFell faults faults'
+ReceivesHead left faults (Err message_end.Bad) left' faults' = IfSome left (λ bytes. HasLongHead bytes ⊎ HasBadHead bytes) × NeverFell faults faults'
+ReceivesHead left faults (Err message_end.TooLarge) left' faults' = ⊥
+ReceivesHead left faults (Err message_end.SourceFault) left' faults' = Rose faults faults'
+ReceivesHead left faults (Err message_end.Memory) left' faults' = NeverFell faults faults'
+
+-- what was read of a body: what each list of bytes is as one
+abbrev pub ReceivesBody : (List ℕ → Told) → Option (List ℕ) → ℕ → Result (List ℕ) MessageEnd → Option (List ℕ) → ℕ → Type 0
+ReceivesBody told left faults (Ok body) left' faults' = ((used : List ℕ) × LeftAfter left used left' × ((rest : List ℕ) → told (used ++ rest) ≡ record { body = body; ending = ending.Whole; rest = rest })) × NeverFell faults faults'
+ReceivesBody told left faults (Err message_end.End) left' faults' = ⊥
+ReceivesBody told left faults (Err message_end.Truncated) left' faults' = IfSome left (λ bytes. (told bytes).ending ≡ ending.Truncated) × NeverFell faults faults'
+ReceivesBody told left faults (Err message_end.Bad) left' faults' = IfSome left (λ bytes. (told bytes).ending ≡ ending.Bad) × NeverFell faults faults'
+ReceivesBody told left faults (Err message_end.TooLarge) left' faults' = IfSome left (λ bytes. (told bytes).ending ≡ ending.TooLarge) × NeverFell faults faults'
+ReceivesBody told left faults (Err message_end.SourceFault) left' faults' = Rose faults faults'
+ReceivesBody told left faults (Err message_end.Memory) left' faults' = NeverFell faults faults'

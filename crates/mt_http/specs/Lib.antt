@@ -1,3 +1,10 @@
+pub mod Body
+pub mod BodyReading
+pub mod Chunk
 pub mod Framing
 pub mod Message
+pub mod Messages
+pub mod Options
 pub mod Reading
+pub mod ReplyText
+pub mod ReplyWriting

@@ -1,13 +1,14 @@
 -- What a request head says: its fields, and how the length of the body is told (RFC 9112, section 6).
-use Rattle.std.specs.Prelude.{ℕ, Bool, bytes_eq, codes, List, [], ◌∷◌, map, filter, Option, Some, None}
+use Rattle.std.specs.Prelude.{ℕ, Bool, bytes_eq, codes, if◌then◌else◌, List, [], ◌∷◌, map, filter, Option, Some, None, option_map}
 use Rattle.std.specs.Str.{str_to_ascii_lowercase}
 use Rattle.httparse.specs.Grammar.{RequestHead, field_value}
 use Rattle.httparse.specs.Grammar as grammar
 use Rattle.mt_bytes.specs.Decimals.{decimal_number}
-use Rattle.mt_http.specs.declared.message.Field.{Field}
+use Rattle.mt_types.specs.declared.object.Field.{Field}
+use Rattle.mt_http.specs.declared.message.Head.{Head}
 use Rattle.mt_http.specs.declared.message.Message.{Message}
 use Rattle.mt_http.specs.declared.framing.Framing.{Framing}
-use Rattle.mt_http.specs.declared.framing.Framing.TheVariants.{Refused, Sized}
+use Rattle.mt_http.specs.declared.framing.Framing.TheVariants.{Empty, Length, Chunked}
 
 -- a field line as a message has it: the name in lower case, the value without the blanks around it
 abbrev pub field_of : grammar.Field → Field
@@ -17,10 +18,6 @@ field_of line = record { name = str_to_ascii_lowercase line.name; value = field_
 abbrev pub fields_of : RequestHead → List Field
 fields_of h = map field_of h.fields
 
--- the message of a head and a body
-abbrev pub message_of : RequestHead → List ℕ → Message
-message_of h body = record { method = h.method; target = h.target; minor = h.minor; fields = fields_of h; body = body }
-
 -- the field has this name
 abbrev pub is_named : List ℕ → Field → Bool
 is_named name field = bytes_eq field.name name
@@ -29,22 +26,40 @@ is_named name field = bytes_eq field.name name
 abbrev pub values_of : List ℕ → List Field → List (List ℕ)
 values_of name fields = map (λ f. f.value) (filter (is_named name) fields)
 
--- a length that a decimal tells
-abbrev pub framing_by_number : Option ℕ → Framing
-framing_by_number None = Refused
-framing_by_number (Some size) = Sized size
+-- the value of the first field of this name
+abbrev pub first_value : List ℕ → List Field → Option (List ℕ)
+first_value name [] = None
+first_value name (f ∷ fields) = if is_named name f then Some f.value else first_value name fields
 
--- by the values of Content-Length: one decimal; no body where there is none
-abbrev pub framing_by_length : List (List ℕ) → Framing
-framing_by_length [] = Sized 0
-framing_by_length (text ∷ []) = framing_by_number (decimal_number text)
-framing_by_length (text ∷ other ∷ more) = Refused
+-- by a Content-Length: a decimal of 1 to 19 digits
+abbrev pub framing_by_length : List ℕ → Option Framing
+framing_by_length text = option_map Length (decimal_number text)
 
--- by the values of Transfer-Encoding and of Content-Length: no transfer coding is read
-abbrev pub framing_by : List (List ℕ) → List (List ℕ) → Framing
-framing_by [] lengths = framing_by_length lengths
-framing_by (coding ∷ more) lengths = Refused
+-- by a Transfer-Encoding: `chunked`, in any case
+abbrev pub framing_by_coding : List ℕ → Option Framing
+framing_by_coding coding = if bytes_eq (str_to_ascii_lowercase coding) (codes "chunked") then Some Chunked else None
 
--- how the length of the body is told
-abbrev pub framing : List Field → Framing
+-- by the values of Transfer-Encoding and of Content-Length: at most one of both together
+abbrev pub framing_by : List (List ℕ) → List (List ℕ) → Option Framing
+framing_by [] [] = Some Empty
+framing_by [] (text ∷ []) = framing_by_length text
+framing_by [] (text ∷ other ∷ more) = None
+framing_by (coding ∷ []) [] = framing_by_coding coding
+framing_by (coding ∷ []) (text ∷ more) = None
+framing_by (coding ∷ other ∷ more) lengths = None
+
+-- how the length of the body is told, or none where it is refused
+abbrev pub framing : List Field → Option Framing
 framing fields = framing_by (values_of (codes "transfer-encoding") fields) (values_of (codes "content-length") fields)
+
+-- the head of a request with this framing
+abbrev pub head_with : RequestHead → Framing → Head
+head_with h told = record { method = h.method; target = h.target; minor = h.minor; fields = fields_of h; framing = told }
+
+-- what a request head says, or none where its framing is refused
+abbrev pub head_of : RequestHead → Option Head
+head_of h = option_map (head_with h) (framing (fields_of h))
+
+-- the message of a head and a body
+abbrev pub message_of : Head → List ℕ → Message
+message_of head body = record { method = head.method; target = head.target; minor = head.minor; fields = head.fields; body = body }

@@ -1,32 +1,26 @@
--- What the steps of reading a message do: a byte, a head, its fields, a body.
-use Rattle.std.specs.Prelude.{◌≡◌, ℕ, ◌+◌, ◌<◌, ◌≤◌, ◌⊎◌, List, [], ◌∷◌, ◌++◌, length, take, Option, IfSome, IsUtf8}
+-- What the steps of reading a head do: a byte, the head, its fields.
+use Rattle.std.specs.Prelude.{◌≡◌, ℕ, ◌≤◌, ◌⊎◌, List, [], ◌∷◌, ◌++◌, length, Option, IfSome, IsUtf8}
 use Rattle.std.specs.Str.{str_to_ascii_lowercase}
 use Rattle.httparse.specs.declared.spans.HeaderSpan.{HeaderSpan}
 use Rattle.httparse.specs.Ascii.{carriage_return}
 use Rattle.httparse.specs.Grammar.{print_blank, LineEnd}
 use Rattle.httparse.specs.Spans.{span_bytes}
 use Rattle.mt_base.specs.Counts.{Rose, NeverFell}
-use Rattle.mt_edge.specs.declared.source.ReadStep.{ReadStep}
-use Rattle.mt_edge.specs.declared.source.ReadStep.TheVariants as step
 use Rattle.mt_edge.specs.Stream.{LeftAfter}
-use Rattle.mt_http.specs.declared.message.Field.{Field}
-use Rattle.mt_http.specs.declared.message.Received.{Received}
-use Rattle.mt_http.specs.declared.message.Received.TheVariants as received
+use Rattle.mt_types.specs.declared.object.Field.{Field}
 use Rattle.mt_http.specs.declared.head.ByteRead.{ByteRead}
 use Rattle.mt_http.specs.declared.head.ByteRead.TheVariants as byte
 use Rattle.mt_http.specs.declared.head.Taken.{Taken}
 use Rattle.mt_http.specs.declared.head.Taken.TheVariants as taken
 use Rattle.mt_http.specs.declared.head.HeadRead.{HeadRead}
 use Rattle.mt_http.specs.declared.head.HeadRead.TheVariants as head_read
-use Rattle.mt_http.specs.declared.body.BodyRead.{BodyRead}
-use Rattle.mt_http.specs.declared.body.BodyRead.TheVariants as body_read
-use Rattle.mt_http.specs.Framing.{head_limit, BeginsWithEmptyLine, EndsWithEmptyLine, IsHead, End, Truncated, Bad, TooLarge, PlaceAt, Spells}
+use Rattle.mt_http.specs.Framing.{head_limit, BeginsWithEmptyLine, EndsWithEmptyLine, IsHead, End, EndsInHead, HasLongHead, PlaceAt}
 
 -- one more byte of a source
 abbrev pub ReadsByte : Option (List ℕ) → ℕ → ByteRead → Option (List ℕ) → ℕ → Type 0
 ReadsByte left faults (byte.Byte b) left' faults' = LeftAfter left (b ∷ []) left' × NeverFell faults faults'
-ReadsByte left faults byte.End left' faults' = IfSome left (λ bytes. bytes ≡ []) × NeverFell faults faults'
-ReadsByte left faults byte.Fault left' faults' = Rose faults faults'
+ReadsByte left faults byte.End left' faults' = IfSome left (λ bytes. bytes ≡ []) × NeverFell faults faults' × (left' ≡ left)
+ReadsByte left faults byte.Fault left' faults' = Rose faults faults' × (left' ≡ left)
 
 -- the first bytes of a head that is not whole yet
 pub record IsHeadFront (bytes : List ℕ) : Type 0 where
@@ -61,8 +55,8 @@ pub record IsRead (lines : List LineEnd) (head : List ℕ) : Type 0 where
 abbrev pub ReadsHead : Option (List ℕ) → ℕ → HeadRead → Option (List ℕ) → ℕ → Type 0
 ReadsHead left faults (head_read.Whole head) left' faults' = ((lines : List LineEnd) × LeftAfter left (print_blank lines ++ head.items) left' × IsRead lines head.items) × NeverFell faults faults'
 ReadsHead left faults head_read.End left' faults' = IfSome left (λ bytes. PlaceAt bytes End) × NeverFell faults faults'
-ReadsHead left faults head_read.Truncated left' faults' = IfSome left (λ bytes. PlaceAt bytes Truncated) × NeverFell faults faults'
-ReadsHead left faults head_read.TooLong left' faults' = IfSome left (λ bytes. PlaceAt bytes Bad) × NeverFell faults faults'
+ReadsHead left faults head_read.Truncated left' faults' = IfSome left EndsInHead × NeverFell faults faults'
+ReadsHead left faults head_read.TooLong left' faults' = IfSome left HasLongHead × NeverFell faults faults'
 ReadsHead left faults head_read.SourceFault left' faults' = Rose faults faults'
 ReadsHead left faults head_read.Memory left' faults' = NeverFell faults faults'
 
@@ -73,26 +67,3 @@ IsNamed head span = IsUtf8 (span_bytes head span.name)
 -- the field that the spans cover
 abbrev pub field_at : List ℕ → HeaderSpan → Field
 field_at head span = record { name = str_to_ascii_lowercase (span_bytes head span.name); value = span_bytes head span.value }
-
--- more of a body, behind its first bytes
-abbrev pub ReadsBehind : ℕ → List ℕ → Option (List ℕ) → ℕ → ReadStep → List ℕ → Option (List ℕ) → ℕ → Type 0
-ReadsBehind done old left faults (step.Took n) new left' faults' = (0 < n) × (done + n ≤ length new) × ((bytes : List ℕ) × LeftAfter left bytes left' × (take (done + n) new ≡ take done old ++ bytes)) × NeverFell faults faults'
-ReadsBehind done old left faults step.End new left' faults' = IfSome left (λ bytes. bytes ≡ []) × NeverFell faults faults'
-ReadsBehind done old left faults step.Failed new left' faults' = Rose faults faults'
-
--- a body of this size
-abbrev pub ReadsBody : ℕ → Option (List ℕ) → ℕ → BodyRead → Option (List ℕ) → ℕ → Type 0
-ReadsBody size left faults (body_read.Whole body) left' faults' = LeftAfter left body.items left' × (length body.items ≡ size) × NeverFell faults faults'
-ReadsBody size left faults body_read.Truncated left' faults' = IfSome left (λ bytes. length bytes < size) × NeverFell faults faults'
-ReadsBody size left faults body_read.SourceFault left' faults' = Rose faults faults'
-ReadsBody size left faults body_read.Memory left' faults' = NeverFell faults faults'
-
--- what was read of a source whose first bytes were read before
-abbrev pub ReceivesAfter : List ℕ → Option (List ℕ) → ℕ → Received → Option (List ℕ) → ℕ → Type 0
-ReceivesAfter front left faults (received.Whole message) left' faults' = ((used : List ℕ) × LeftAfter left used left' × Spells (front ++ used) message) × NeverFell faults faults'
-ReceivesAfter front left faults received.End left' faults' = ⊥
-ReceivesAfter front left faults received.Truncated left' faults' = IfSome left (λ bytes. PlaceAt (front ++ bytes) Truncated) × NeverFell faults faults'
-ReceivesAfter front left faults received.Bad left' faults' = IfSome left (λ bytes. PlaceAt (front ++ bytes) Bad) × NeverFell faults faults'
-ReceivesAfter front left faults received.TooLarge left' faults' = IfSome left (λ bytes. PlaceAt (front ++ bytes) TooLarge) × NeverFell faults faults'
-ReceivesAfter front left faults received.SourceFault left' faults' = Rose faults faults'
-ReceivesAfter front left faults received.Memory left' faults' = NeverFell faults faults'

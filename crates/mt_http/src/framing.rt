@@ -1,38 +1,80 @@
-//! Where the body of a message ends (RFC 9112, section 6).
-ghost use Rattle.std.specs.Prelude.{◌≡◌};
-ghost use Rattle.mt_http.specs.Message as said;
+//! How the fields of a head tell the length of the body (RFC 9112, section 6).
+ghost use Rattle.std.specs.Prelude.{◌≡◌, length, option_map};
+ghost use Rattle.mt_http.specs.Message.{first_value, framing, framing_by_coding, framing_by_length, is_named, values_of};
 
-use crate::message::Field;
 use mt_bytes::read_decimal;
+use mt_types::Field;
 
 /// How the length of a body is told.
 #[derive(Clone, Copy, Debug, PartialEq, Eq)]
 pub enum Framing {
-    /// The fields contradict each other, or ask for what is not read.
-    Refused,
-    /// So many bytes follow the head.
-    Sized(u64),
+    /// By neither field: there is no body.
+    Empty,
+    /// By Content-Length, in bytes.
+    Length(u64),
+    /// By its chunks (RFC 9112, section 7.1).
+    Chunked,
 }
 
-/// How the fields of a head tell the length of the body.
-pub(crate) fn read_framing(fields: &[Field]) -> Framing
-    ensures { result ≡ said.framing fields.now }
+// How many fields have this name.
+fn count_of(fields: &[Field], name: &str) -> usize
+    ensures { result ≡ length (values_of name.now fields.now) }
 {
-    let mut size = None;
+    let mut count = 0;
     for field in fields {
-        let name = field.name.as_str();
-        if name == "transfer-encoding" {
-            return Framing::Refused;
-        }
-        if name == "content-length" {
-            if size.is_some() {
-                return Framing::Refused;
-            }
-            match read_decimal(field.value.as_slice()) {
-                Some(number) => size = Some(number),
-                None => return Framing::Refused,
-            }
+        if field.name.as_str() == name {
+            count += 1;
         }
     }
-    Framing::Sized(size.unwrap_or(0))
+    count
+}
+
+/// The value of the first field of this name.
+pub(crate) fn value_of<'a>(fields: &'a [Field], name: &str) -> Option<&'a [u8]>
+    ensures { option_map (λ v. v.now) result ≡ first_value name.now fields.now }
+{
+    for field in fields {
+        if field.name.as_str() == name {
+            return Some(field.value.as_slice());
+        }
+    }
+    None
+}
+
+fn coding_framing(coding: &[u8]) -> Option<Framing>
+    ensures { result ≡ framing_by_coding coding.now }
+{
+    if coding.eq_ignore_ascii_case(b"chunked") {
+        Some(Framing::Chunked)
+    } else {
+        None
+    }
+}
+
+fn length_framing(text: &[u8]) -> Option<Framing>
+    ensures { result ≡ framing_by_length text.now }
+{
+    match read_decimal(text) {
+        Some(size) => Some(Framing::Length(size)),
+        None => None,
+    }
+}
+
+/// How the fields of a head tell the length of the body, or none where they contradict each other or ask for
+/// what is not read.
+pub(crate) fn read_framing(fields: &[Field]) -> Option<Framing>
+    ensures { result ≡ framing fields.now }
+{
+    let codings = count_of(fields, "transfer-encoding");
+    let lengths = count_of(fields, "content-length");
+    if 1 < codings || 1 < lengths || codings + lengths == 2 {
+        return None;
+    }
+    match value_of(fields, "transfer-encoding") {
+        Some(coding) => coding_framing(coding),
+        None => match value_of(fields, "content-length") {
+            Some(text) => length_framing(text),
+            None => Some(Framing::Empty),
+        },
+    }
 }

@@ -18,7 +18,8 @@ pub(crate) enum ByteRead {
     Fault,
 }
 
-fn read_byte<S: Source>(source: &mut S) -> ByteRead
+/// Reads one more byte.
+pub(crate) fn read_byte<S: Source>(source: &mut S) -> ByteRead
     ensures stays { S.source_stays source.old source.new }
     ensures read { ReadsByte (S.left source.old) (S.read_faults source.old)
         result (S.left source.new) (S.read_faults source.new) }
@@ -102,7 +103,7 @@ fn ended(head: &[u8]) -> HeadRead
 
 /// Reads the head at the front of a source, and the empty lines before it. A head takes memory in proportion
 /// to its length.
-pub(crate) fn read_head<S: Source>(alloc: Global, source: &mut S) -> HeadRead
+pub(crate) fn find_head<S: Source>(alloc: Global, source: &mut S) -> HeadRead
     ensures stays { S.source_stays source.old source.new }
     ensures read { ReadsHead (S.left source.old) (S.read_faults source.old)
         result (S.left source.new) (S.read_faults source.new) }

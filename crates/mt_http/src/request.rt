@@ -1,16 +1,18 @@
 //! What the head of a request says (RFC 9112, sections 3 and 5).
-ghost use Rattle.std.specs.Prelude.{◌≡◌, ◌≤◌, [], map, length, All, IsUtf8, IfOk, IfSome, IfNone};
+ghost use Rattle.std.specs.Prelude.{◌≡◌, ◌≤◌, Some, None, map, length, All, IsUtf8, IfOk, IfSome, IfNone};
 ghost use Rattle.std.specs.Str.{str_to_ascii_lowercase};
 ghost use Rattle.httparse.specs.Grammar.{RequestHead};
 ghost use Rattle.httparse.specs.Spans.{IsHeaderWithin, IsRequestAt, IsRequestWithin, span_bytes};
 ghost use Rattle.mt_http.specs.Framing.{IsRequestHeadOf};
-ghost use Rattle.mt_http.specs.Message.{message_of};
+ghost use Rattle.mt_http.specs.Message.{head_of};
 ghost use Rattle.mt_http.specs.Reading.{field_at, IsNamed};
 
-use crate::message::{Field, Message};
+use crate::framing::read_framing;
+use crate::message::Head;
 use httparse::Status;
 use httparse::spans::{EMPTY_HEADER_SPAN, HeaderSpan, RequestSpans, Span, parse_request};
 use mt_base::{Bytes, Sequence, Text};
+use mt_types::Field;
 use std::alloc::{AllocError, Global};
 
 /// A head has no more fields than this.
@@ -58,37 +60,42 @@ fn read_fields(
     Ok(Sequence::from_vec(fields))
 }
 
-fn read_parts(
+// What a head says, of which the parser found these parts.
+fn read_found(
     alloc: Global,
     head: &[u8],
     parts: RequestSpans,
     spans: &[HeaderSpan],
-) -> Result<Message, AllocError>
+) -> Result<Option<Head>, AllocError>
     requires within { IsRequestWithin head.now spans.now parts }
     requires reads { (h : RequestHead) × IsRequestAt head.now spans.now parts h }
-    ensures { IfOk result (λ message. (h : RequestHead)
-        → IsRequestAt head.now spans.now parts h → message ≡ message_of h []) }
+    ensures { IfOk result (λ says. (h : RequestHead)
+        → IsRequestAt head.now spans.now parts h → says ≡ head_of h) }
 {
-    Ok(Message {
-        method: Text::from_str(alloc, text_at(head, parts.method))?,
-        target: Bytes::from_slice(alloc, parts.path.of(head))?,
-        minor: parts.version,
-        fields: read_fields(alloc, head, &spans[..parts.headers])?,
-        body: Bytes::from_vec(Vec::new(alloc)),
-    })
+    let fields = read_fields(alloc, head, &spans[..parts.headers])?;
+    match read_framing(fields.as_slice()) {
+        Some(framing) => Ok(Some(Head {
+            method: Text::from_str(alloc, text_at(head, parts.method))?,
+            target: Bytes::from_slice(alloc, parts.path.of(head))?,
+            minor: parts.version,
+            fields,
+            framing,
+        })),
+        None => Ok(None),
+    }
 }
 
-/// The request of a head, with no body yet, or none where the bytes are not, as a whole, one request head.
-pub(crate) fn read_request(alloc: Global, head: &[u8]) -> Result<Option<Message>, AllocError>
-    ensures some { IfOk result (λ found. IfSome found (λ message. (h : RequestHead)
-        × IsRequestHeadOf head.now h × (message ≡ message_of h []))) }
+/// What a head says, or none where the bytes are not, as a whole, one request head, or its framing is refused.
+pub(crate) fn read_request(alloc: Global, head: &[u8]) -> Result<Option<Head>, AllocError>
+    ensures some { IfOk result (λ found. IfSome found (λ says. (h : RequestHead)
+        × IsRequestHeadOf head.now h × (head_of h ≡ Some says))) }
     ensures none { IfOk result (λ found. IfNone found
-        ((h : RequestHead) → ¬ (IsRequestHeadOf head.now h))) }
+        ((h : RequestHead) → IsRequestHeadOf head.now h → head_of h ≡ None)) }
 {
     let mut spans = [EMPTY_HEADER_SPAN; FIELD_LIMIT];
     match parse_request(head, &mut spans) {
         Ok(Status::Complete(parts)) if parts.len == head.len() => {
-            Ok(Some(read_parts(alloc, head, parts, &spans)?))
+            read_found(alloc, head, parts, &spans)
         }
         _ => Ok(None),
     }

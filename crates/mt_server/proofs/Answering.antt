@@ -1,10 +1,9 @@
 -- The answer to a message, by what it asks for.
-use Rattle.std.proofs.Common.{◌≡◌, ℕ, ◌+◌, ◌≤◌, List, [], ◌∷◌, ◌++◌, length, Bool, true, false, cond, Option, Some, None, Result, Ok, Err, inl, inr, refl, ap, sym, subst, ◌∙◌, arith, append-nil}
+use Rattle.std.proofs.Common.{◌≡◌, ℕ, ◌+◌, ◌≤◌, List, [], ◌∷◌, length, Bool, true, false, cond, Option, Some, None, Result, Ok, Err, refl, ap, sym, subst, ◌∙◌, arith, append-nil}
 use Rattle.std.specs.Prelude.{IfOk, ◌&&◌, ◌==◌, not, nat_le, bytes_eq, codes, take, drop}
 use Rattle.std.proofs.lemmas.Bool.{leb-true}
 use Rattle.std.specs.List.{list_all, list_any}
 use Rattle.std.specs.declared.alloc.AllocError.{AllocError}
-use Rattle.mt_base.specs.Counts.{NeverFell}
 use Rattle.mt_disk.specs.Files.{Files}
 use Rattle.mt_server.specs.Answer.{Answer, answer_of, answer_to, asked, asks_for_more, content_type_of, fits, found, is_dots, is_name, is_name_byte, is_object_kind, is_plain, is_visible, kind_text, makes_object, name_at, only, put_answer, route_of, stor_of}
 use Rattle.mt_server.specs.Answered.{Answers, reply_or_memory}
@@ -105,7 +104,7 @@ small_kind : (kind : List ℕ) → makes_object kind ≡ true → length kind �
 small_kind kind is = leb-true (length kind) 255 (and_parts (is_object_kind (kind_text kind)) (nat_le (length kind) 255) (and_parts _ (list_all is_visible kind) is).0).1
 
 -- a put that a message asks for is within its limits
-pub put_limits : (login : List ℕ) (m : Message) (name kind : List ℕ) (t : ℕ) → PutObject name kind ≡ route_of login m → length m.body ≤ 16777216 → t ≤ 253402300799 → IsPut (record { name = name; content_type = kind; body = m.body; moment = t })
+pub put_limits : (login : List ℕ) (m : Message) (name kind : List ℕ) (t : ℕ) → PutObject name kind ≡ route_of login m → length m.body ≤ 1073741824 → t ≤ 253402300799 → IsPut (record { name = name; content_type = kind; body = m.body; moment = t })
 put_limits login m name kind t is body moment =
     let plain = asked_plainly (is_plain m) (asked m.method (content_type_of m) (name_at (stor_of login) m.target)) name kind (sym is) in
     let put = asked_put m.method (content_type_of m) (name_at (stor_of login) m.target) name kind plain.1 in

@@ -1,13 +1,11 @@
 -- One step of a connection, by what became of its message.
-use Rattle.std.proofs.Common.{◌≡◌, ℕ, ◌+◌, ◌<◌, ◌≤◌, List, [], ◌∷◌, ◌++◌, length, Bool, true, false, Option, Some, None, Result, Ok, Err, inl, inr, refl, ap, sym, subst, ◌∙◌, arith, append-nil, append_assoc, length-append, cond}
-use Rattle.std.specs.Prelude.{IfSome, is_some}
-use Rattle.std.specs.List.{flat_map}
-use Rattle.mt_base.specs.Counts.{NeverFell, Rose}
+use Rattle.std.proofs.Common.{◌≡◌, ℕ, ◌+◌, ◌≤◌, List, [], ◌∷◌, ◌++◌, length, Bool, true, false, Option, Some, None, Ok, inl, inr, refl, ap, sym, subst, ◌∙◌, arith, append-nil, append_assoc, length-append, cond}
+use Rattle.std.specs.Prelude.{IfSome, is_some, bytes_eq, codes}
+use Rattle.mt_base.specs.Counts.{NeverFell}
 use Rattle.mt_base.specs.Lists.{IsPrefixOf}
 use Rattle.mt_disk.specs.Files.{Files}
 use Rattle.mt_edge.specs.Stream.{LeftAfter, GotMore}
-use Rattle.mt_edge.proofs.Streams.{got_nothing}
-use Rattle.mt_http.specs.Framing.{Place, PlaceAt, Spells}
+use Rattle.mt_http.specs.Framing.{Place, PlaceAt, Spells, body_limit}
 use Rattle.mt_http.specs.declared.message.Message.{Message}
 use Rattle.mt_log.specs.LogState.{Stands as Standing}
 use Rattle.mt_log.proofs.Standing.{stands_leave}
@@ -15,9 +13,9 @@ use Rattle.mt_server.specs.Answer.{Answer, answer_of, answer_to, closes, fits, o
 use Rattle.mt_server.specs.EngineState.{AllHave, AllHaveEither, EngineState, HasHistory, IsCurrent, told_images}
 use Rattle.mt_server.specs.ReplyText.{refused_reply, reply_text, stored_reply}
 use Rattle.mt_server.specs.Responded.{Responds}
-use Rattle.mt_server.specs.Sides.{NoneFell, Sides, sides}
+use Rattle.mt_server.specs.Sides.{Sides, sides}
 use Rattle.mt_server.specs.Store.{History, made_by}
-use Rattle.mt_server.specs.Transcript.{Begun, Cut, Ends, Exchange, Images, IsKept, IsOpen, Quiet, Ran, RefusedAs, Refuses, Stands, Stepped, named_after, with_history}
+use Rattle.mt_server.specs.Transcript.{Begun, Cut, Exchange, IsKept, Quiet, RefusedAs, Refuses, Stands, Stepped, named_after, with_history}
 use Rattle.mt_server.specs.declared.connection.ConnectionEnd.{ConnectionEnd}
 use Rattle.mt_server.specs.declared.connection.ConnectionEnd.TheVariants as ended
 use Rattle.mt_server.specs.declared.connection.Step.{Step}
@@ -25,7 +23,6 @@ use Rattle.mt_server.specs.declared.connection.Step.TheVariants as step
 use Rattle.mt_server.specs.declared.put.Put.{Put}
 use Rattle.mt_server.specs.declared.reply.ErrorCode.{ErrorCode}
 use Rattle.mt_server.specs.declared.reply.ErrorCode.TheVariants as error
-use Rattle.mt_server.specs.declared.reply.Reply.{Reply}
 use Rattle.mt_server.specs.declared.respond.Responded.TheVariants as responded
 use Rattle.mt_server.specs.declared.route.Route.{Route}
 use Rattle.mt_server.specs.declared.route.Route.TheVariants.{PutObject, GetObject, NotBuilt}
@@ -158,10 +155,9 @@ refused_step gives login limit h code place ended.DiskFault got w got' w' d curr
 refused_step gives login limit h code place ended.Truncated got w got' w' d current images left left' f f' all r why stands counted = absurd r
 refused_step gives login limit h code place ended.Many got w got' w' d current images left left' f f' all r why stands counted = absurd r
 
--- a message that bytes spell is within the limit
-pub spelled_small : (used : List ℕ) (m : Message) → Spells used m → length m.body ≤ 16777216
-unfolding PlaceAt
-spelled_small used m spelled = let whole = spelled [] in omega (arith, whole.within, ap (λ (m : Message). length m.body) whole.is)
+-- no method's limit is above this
+pub limit_most : (method : List ℕ) → body_limit method ≤ 1073741824
+limit_most method = elim (bytes_eq method (codes "PUT")) as (λ b. cond b 1073741824 16777216 ≤ 1073741824) [ true ↦ omega arith | false ↦ omega arith ]
 
 -- a step, where reading left what was written
 pub step_after_read : (gives : ℕ → Type 0) (login : List ℕ) (limit : ℕ) (current : History → Type 0) (images : Files → Type 0) (h : History) (left : Option (List ℕ)) (f : ℕ) (got got0 : Option (List ℕ)) (w w0 d : ℕ) (s : Step) (new : Sides)

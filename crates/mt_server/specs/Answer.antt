@@ -1,13 +1,14 @@
 -- The reply to a message and the command that it adds, as functions of the history.
-use Rattle.std.specs.Prelude.{◌≡◌, ℕ, ◌+◌, ◌<◌, ◌≤◌, Bool, true, false, ◌&&◌, ◌||◌, not, nat_lt, nat_le, ◌==◌, bytes_eq, List, [], ◌∷◌, ◌++◌, length, take, drop, map, filter, codes, Option, Some, None, unwrap_or, if◌then◌else◌}
-use Rattle.std.specs.List.{list_all, list_any, slice_split}
+use Rattle.std.specs.Prelude.{ℕ, ◌+◌, Bool, false, ◌&&◌, ◌||◌, not, nat_lt, nat_le, ◌==◌, bytes_eq, List, [], ◌∷◌, ◌++◌, length, take, drop, map, filter, codes, Option, Some, None, unwrap_or, if◌then◌else◌}
+use Rattle.std.specs.List.{list_all, list_any}
 use Rattle.std.specs.Char.{is_ascii_alphanumeric, to_ascii_lowercase}
 use Rattle.mt_log.specs.LogImage.{log_size}
 use Rattle.mt_http.specs.Message.{is_named}
+use Rattle.mt_http.specs.Options as option
 use Rattle.mt_server.specs.ReplyText.{stored_reply, found_reply, refused_reply}
-use Rattle.mt_server.specs.Store.{History, State, replay, made_by, object_at, payload_of, payloads_of_history, most_commands}
+use Rattle.mt_server.specs.Store.{History, replay, made_by, object_at, payload_of, payloads_of_history, most_commands}
 use Rattle.mt_server.specs.Stored.{Stored}
-use Rattle.mt_http.specs.declared.message.Field.{Field}
+use Rattle.mt_types.specs.declared.object.Field.{Field}
 use Rattle.mt_http.specs.declared.message.Message.{Message}
 use Rattle.mt_server.specs.declared.put.Put.{Put}
 use Rattle.mt_server.specs.declared.reply.ErrorCode.TheVariants as error
@@ -24,28 +25,9 @@ first_value name (f ∷ fields) = if is_named name f then Some f.value else firs
 abbrev pub is_blank : ℕ → Bool
 is_blank b = (b == 32) || (b == 9)
 
-abbrev pub skip_blanks : List ℕ → List ℕ
-skip_blanks [] = []
-skip_blanks (b ∷ bytes) = if is_blank b then skip_blanks bytes else b ∷ bytes
-
--- `close` in any case, and blanks
-abbrev pub begins_with_close : List ℕ → Bool
-begins_with_close word = bytes_eq (map to_ascii_lowercase (take 5 word)) (codes "close")
-
-abbrev pub says_close : List ℕ → Bool
-says_close word = begins_with_close (skip_blanks word) && list_all is_blank (drop 5 (skip_blanks word))
-
--- `close` is among the words between commas
-abbrev pub has_close : List ℕ → Bool
-has_close value = list_any says_close (slice_split (λ b. b == 44) value)
-
--- a Connection field with `close` among its words (RFC 9110, section 7.6.1)
-abbrev pub asks_to_close : Field → Bool
-asks_to_close f = is_named (codes "connection") f && has_close f.value
-
 -- no message follows it on its connection
 abbrev pub closes : Message → Bool
-closes m = (m.minor == 0) || list_any asks_to_close m.fields
+closes m = option.closes m.minor m.fields
 
 -- what a name may hold: letters, digits, `_`, `-` and `.`
 abbrev pub is_name_byte : ℕ → Bool

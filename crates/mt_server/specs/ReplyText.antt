@@ -6,7 +6,7 @@ use Rattle.mt_ident.specs.Identifiers.{identifier_text}
 use Rattle.mt_ident.specs.Digests.{digest_text}
 use Rattle.mt_ident.specs.Dates.{http_date_text}
 use Rattle.mt_server.specs.Stored.{Stored}
-use Rattle.mt_http.specs.declared.message.Field.{Field}
+use Rattle.mt_types.specs.declared.object.Field.{Field}
 use Rattle.mt_server.specs.declared.reply.ErrorCode.{ErrorCode}
 use Rattle.mt_server.specs.declared.reply.ErrorCode.TheVariants as error
 use Rattle.mt_server.specs.declared.reply.Reply.{Reply}

@@ -1,5 +1,5 @@
 -- The account of this stage: a map from names to objects, and the puts that made it.
-use Rattle.std.specs.Prelude.{◌≡◌, ℕ, ◌+◌, ◌*◌, ◌^◌, ◌<◌, ◌≤◌, List, [], ◌∷◌, ◌++◌, length, map, Option}
+use Rattle.std.specs.Prelude.{ℕ, ◌+◌, ◌*◌, ◌≤◌, List, [], ◌∷◌, ◌++◌, length, map, Option}
 use Rattle.std.specs.Ordering.{nat_cmp}
 use Rattle.std.specs.Cmp.Lexicographic.{slice_cmp}
 use Rattle.std.specs.BTreeMap.{insert_entry, is_at}
@@ -44,7 +44,7 @@ object_at s name = lookup (is_at (slice_cmp nat_cmp name)) s.rows
 pub record IsPut (put : Put) : Type 0 where
   pub name : length put.name ≤ 255
   pub content_type : length put.content_type ≤ 255
-  pub body : length put.body ≤ 16777216
+  pub body : length put.body ≤ 1073741824
   pub moment : put.moment ≤ 253402300799
 
 -- a text with its length in two bytes

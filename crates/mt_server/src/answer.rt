@@ -124,7 +124,7 @@ pub(crate) fn answer<D: Disk>(
 ) -> Answered
     requires stands { Stands D.seen D.may_leave disk.old engine.old.log }
     requires is_open { engine.old.log.closed ≡ false }
-    requires body { length message.body ≤ 16777216 }
+    requires body { length message.body ≤ 1073741824 }
     requires moment { moment ≤ 253402300799 }
     ensures answer { (tells : Bool) (h : History) → IsCurrent tells (D.seen disk.old) engine.old h →
         Answers tells h (answer_of login.now engine.old.log.limit h message moment) (D.seen disk.old) engine.old (D.faults disk.old) result (D.seen disk.new) engine.new (D.faults disk.new)

@@ -16,7 +16,7 @@ use crate::route::is_last;
 use crate::types::Engine;
 use mt_disk::Disk;
 use mt_edge::{Both, Clock, Sink, write_all};
-use mt_http::{Message, Received, read_message};
+use mt_http::{Message, MessageEnd, read_message};
 use std::alloc::Global;
 
 /// How a connection ended.
@@ -84,7 +84,7 @@ fn converse<D: Disk, C: Clock, K: Sink>(
 ) -> Step
     requires stands { Stands D.seen D.may_leave disk.old engine.old.log }
     requires is_open { engine.old.log.closed ≡ false }
-    requires body { length message.body ≤ 16777216 }
+    requires body { length message.body ≤ 1073741824 }
     // Whatever a source had before the message and after it.
     ensures step { (tells : Bool) (h : History) (left left' : Option (List ℕ)) (used : List ℕ) (f f' : ℕ) → IsCurrent tells (D.seen disk.old) engine.old h →
         LeftAfter left used left' → Spells used message → NeverFell f f' →
@@ -127,19 +127,25 @@ fn exchange<D: Disk, C: Clock, L: Both>(
     ensures stays { L.stays link.old link.new }
 {
     match read_message(alloc, link) {
-        Received::Whole(message) => converse(alloc, login, engine, disk, clock, link, message),
-        Received::End => Step::Over(ConnectionEnd::Ended),
-        Received::Truncated => Step::Over(ConnectionEnd::Truncated),
-        Received::Bad => Step::Over(refuse(alloc, engine, clock, link, ErrorCode::BadRequest)),
-        Received::TooLarge => Step::Over(refuse(
+        Ok(message) => converse(alloc, login, engine, disk, clock, link, message),
+        Err(MessageEnd::End) => Step::Over(ConnectionEnd::Ended),
+        Err(MessageEnd::Truncated) => Step::Over(ConnectionEnd::Truncated),
+        Err(MessageEnd::Bad) => Step::Over(refuse(
+            alloc,
+            engine,
+            clock,
+            link,
+            ErrorCode::BadRequest,
+        )),
+        Err(MessageEnd::TooLarge) => Step::Over(refuse(
             alloc,
             engine,
             clock,
             link,
             ErrorCode::RequestEntityTooLarge,
         )),
-        Received::SourceFault => Step::Over(ConnectionEnd::SourceFault),
-        Received::Memory => Step::Over(ConnectionEnd::Memory),
+        Err(MessageEnd::SourceFault) => Step::Over(ConnectionEnd::SourceFault),
+        Err(MessageEnd::Memory) => Step::Over(ConnectionEnd::Memory),
     }
 }
 

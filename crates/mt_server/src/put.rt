@@ -12,7 +12,7 @@ pub struct Put {
     pub name: Bytes,
     /// Of at most 255 bytes.
     pub content_type: Bytes,
-    /// Of at most 16,777,216 bytes.
+    /// Of at most 1,073,741,824 bytes.
     pub body: Bytes,
     /// Seconds since 1970, at most 253,402,300,799.
     pub moment: u64,
@@ -41,7 +41,7 @@ fn put_head(out: &mut Vec<u8>, put: &Put) -> Result<(), AllocError>
 
 // The body with its length in four bytes.
 fn put_body(out: &mut Vec<u8>, body: &[u8]) -> Result<(), AllocError>
-    requires { length body.now ≤ 16777216 }
+    requires { length body.now ≤ 1073741824 }
     ensures { OnOk result (out.new.items ≡ out.old.items ++ body_32 body.now) }
 {
     out.extend_from_slice(&(body.len() as u32).to_be_bytes())?;

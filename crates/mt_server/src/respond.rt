@@ -37,7 +37,7 @@ pub(crate) fn respond<D: Disk, C: Clock, K: Sink>(
 ) -> Responded
     requires stands { Stands D.seen D.may_leave disk.old engine.old.log }
     requires is_open { engine.old.log.closed ≡ false }
-    requires body { length message.body ≤ 16777216 }
+    requires body { length message.body ≤ 1073741824 }
     ensures response { (tells : Bool) (h : History) → IsCurrent tells (D.seen disk.old) engine.old h →
         Responds (C.gives (C.rule clock.old)) login.now engine.old.log.limit h message (K.got sink.old) (K.write_faults sink.old) (D.faults disk.old)
         result (K.got sink.new) (K.write_faults sink.new) (D.faults disk.new) (λ h'. IsCurrent tells (D.seen disk.new) engine.new h') (told_images tells (D.may_leave disk.new)) }

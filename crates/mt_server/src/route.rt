@@ -1,7 +1,7 @@
 //! What a message asks for.
 ghost use Rattle.std.specs.Prelude.{◌≡◌, ◌&&◌, ◌||◌, ◌==◌, not, nat_le, codes, length, map, filter, IfOk, option_map, option_copied, unwrap_or};
-ghost use Rattle.std.specs.List.{list_all, list_any, slice_split};
-ghost use Rattle.mt_server.specs.Answer.{asked_for, asks_for_more, asks_to_close, begins_with_close, closes, content_type_of, first_value, has_close, is_blank, is_dots, is_later_name, is_name, is_name_byte, is_object_kind, is_plain, is_visible, kind_text, makes_object, name_at, route_of, says_close, skip_blanks, stor_of};
+ghost use Rattle.std.specs.List.{list_all, list_any};
+ghost use Rattle.mt_server.specs.Answer.{asked_for, asks_for_more, closes, content_type_of, first_value, is_blank, is_dots, is_later_name, is_name, is_name_byte, is_object_kind, is_plain, is_visible, kind_text, makes_object, name_at, route_of, stor_of};
 ghost use Rattle.mt_http.specs.Message.{is_named};
 
 use mt_base::Bytes;
@@ -27,67 +27,11 @@ fn is_blank_byte(byte: u8) -> bool
     byte == b' ' || byte == b'\t'
 }
 
-// The bytes from the first that is no blank.
-fn without_blanks(bytes: &[u8]) -> &[u8]
-    ensures { result.now ≡ skip_blanks bytes.now }
-{
-    for at in 0..bytes.len() {
-        if !is_blank_byte(bytes[at]) {
-            return &bytes[at..];
-        }
-    }
-    &[]
-}
-
-fn are_blanks(bytes: &[u8]) -> bool
-    ensures { result ≡ list_all is_blank bytes.now }
-{
-    bytes.iter().all(|byte| is_blank_byte(*byte))
-}
-
-fn begins_with_close(word: &[u8]) -> bool
-    ensures { result ≡ begins_with_close word.now }
-{
-    if word.len() < 5 {
-        return false;
-    }
-    word[..5].eq_ignore_ascii_case(b"close")
-}
-
-// Whether a word is `close`, in any case, among blanks.
-fn is_close(word: &[u8]) -> bool
-    ensures { result ≡ says_close word.now }
-{
-    let word = without_blanks(word);
-    if !begins_with_close(word) {
-        return false;
-    }
-    word.len() <= 5 || are_blanks(&word[5..])
-}
-
-fn has_close(value: &[u8]) -> bool
-    ensures { result ≡ has_close value.now }
-{
-    value.split(|byte| *byte == b',').any(|word| is_close(word))
-}
-
-fn closes_after(field: &Field) -> bool
-    ensures { result ≡ asks_to_close field.now }
-{
-    field.name.as_str() == "connection" && has_close(field.value.as_slice())
-}
-
-fn any_closes(fields: &[Field]) -> bool
-    ensures { result ≡ list_any asks_to_close fields.now }
-{
-    fields.iter().any(closes_after)
-}
-
 /// Whether no message follows this one on its connection.
 pub(crate) fn is_last(message: &Message) -> bool
     ensures { result ≡ closes message.now }
 {
-    message.minor == 0 || any_closes(message.fields.as_slice())
+    mt_http::closes(message.minor, message.fields.as_slice())
 }
 
 // The value of the first field of a name.

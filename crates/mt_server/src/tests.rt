@@ -243,7 +243,7 @@ fn ends_of_a_source(rt: HostRuntime) -> Result<(), Fail> {
             b"HTTP/1.1 400 Bad Request\r\nconnection: close\r\ncontent-length: 64\r\n",
         ),
         (
-            b"PUT /l/stor/a HTTP/1.1\r\nContent-Length: 16777217\r\n\r\n",
+            b"PUT /l/stor/a HTTP/1.1\r\nContent-Length: 1073741825\r\n\r\n",
             12,
             b"HTTP/1.1 413 Content Too Large\r\nconnection: close\r\ncontent-length: 71\r\n",
         ),

@@ -1,0 +1,26 @@
+//! Laws: what bytes are is one thing, however they come.
+ghost use Rattle.std.specs.Prelude.{◌≡◌, ◌↔◌, ℕ, List, [], Some};
+ghost use Rattle.httparse.specs.Grammar.{ChunkLine, ReadsChunkLine, chunk_size};
+ghost use Rattle.mt_http.specs.Chunk.{chunk_line_size};
+ghost use Rattle.mt_http.specs.Framing.{PlaceIsOne};
+ghost use Rattle.mt_http.specs.Messages.{InterimIsOne, MessagesAreOne};
+
+/// No list of bytes has two places, so what a source is answered does not hang on how its bytes come.
+pub fn place_is_one()
+    ensures { PlaceIsOne }
+{}
+
+/// No list of bytes has two lists of messages, nor two places where no message stands any more.
+pub fn messages_are_one()
+    ensures { MessagesAreOne }
+{}
+
+/// No list of bytes has two interim replies before the body at its front.
+pub fn interim_is_one()
+    ensures { InterimIsOne }
+{}
+
+/// A line tells a size exactly where it is a chunk line of the parser's grammar, and then that line's size.
+pub fn chunk_lines_are_of_the_grammar()
+    ensures { (line : List ℕ) (n : ℕ) → (chunk_line_size line ≡ Some n) ↔ ((l : ChunkLine) × ReadsChunkLine line l [] × (chunk_size l ≡ n)) }
+{}
