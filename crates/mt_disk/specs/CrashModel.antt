@@ -56,3 +56,9 @@ pub record Untouched {D : Type 0} (seen : D → Option Files) (may_leave : D →
   pub seen_same : seen new ≡ seen old
   pub none_new : (c : Files) → may_leave new c → may_leave old c
   pub any_moment : LeavesOnly moment left_since old new (may_leave old)
+
+-- Nothing was written: what a read gives and what a crash now may leave is as before, while time goes on.
+pub record OnlyRead {D : Type 0} (seen : D → Option Files) (may_leave : D → Files → Type 0) (moment : D → ℕ) (left_since : D → ℕ → Files → Type 0) (old new : D) : Type 0 where
+  pub seen_same : seen new ≡ seen old
+  pub images : SameImages (may_leave old) (may_leave new)
+  pub time : Elapses (moment old) (moment new) (left_since old) (left_since new) (may_leave new)

@@ -1,24 +1,25 @@
--- A record is written behind the closed gate, and then the gate is opened.
-use Rattle.std.proofs.Common.{◌≡◌, ◌⊎◌, inl, inr, ℕ, ◌+◌, ◌<◌, ◌≤◌, ◌^◌, List, [], ◌∷◌, ◌++◌, length, min, get_or, take, drop, Ok, Some, sym, ◌∙◌, ap, subst, arith, append_assoc, length-append, take-append-drop}
-use Rattle.std.proofs.lemmas.List.{take_at, drop_at, drop_more, flat_map_more}
+-- Records are written behind the closed gate, and then the gate is opened.
+use Rattle.std.proofs.Common.{◌≡◌, ◌⊎◌, inl, inr, ℕ, ◌+◌, ◌<◌, ◌≤◌, Bool, true, false, true≢false, List, [], ◌∷◌, ◌++◌, length, min, get_or, take, drop, Ok, Some, refl, sym, ◌∙◌, ap, subst, arith, append_assoc, length-append, take-append-drop}
+use Rattle.std.specs.Prelude.{IsOk}
+use Rattle.std.proofs.lemmas.List.{take_at, drop_at, drop_more}
+use Rattle.std.proofs.lemmas.List.Concat.{flat_map-append}
 use Rattle.std.proofs.lemmas.Bool.{cases_eq}
 use Rattle.std.proofs.lemmas.Bool.Decides.{nat_tests}
 use Rattle.std.specs.List.{flat_map}
+use Rattle.std.specs.Result.{result_unwrap_or}
+use Rattle.std.proofs.lemmas.Option.{none-some}
 use Rattle.mt_disk.specs.declared.disk.FileNo.{FileNo}
 use Rattle.mt_disk.specs.declared.disk.FileNo.TheVariants.{Head, One, Two}
 use Rattle.mt_disk.specs.Files.{Files, contents, with_contents, overwritten}
 use Rattle.mt_disk.specs.CrashModel.{Torn}
-use Rattle.mt_log.specs.LogImage.{log_magic, head_of, record_of, AllFit, Holds, IsLogOf, chosen_by, chosen_file, log_in, payloads_in, payloads}
-use Rattle.std.specs.Result.{result_unwrap_or}
-use Rattle.std.proofs.lemmas.Option.{none-some}
 use Rattle.mt_disk.proofs.FileLemmas.{overwritten_at}
-use Rattle.mt_log.specs.Stage.{staged}
-use Rattle.mt_log.proofs.Records.{length-head_of, log_in-records}
+use Rattle.mt_log.specs.LogImage.{AllFit, Fit, Holds, IsLogOf, ReadsAs, chosen_by, chosen_file, log_by, magic_of, payloads_by, payloads_in, payloads_of, record_of}
 use Rattle.mt_log.proofs.Fronts.{length-holds}
+use Rattle.mt_log.proofs.Walks.{log_by-holds, read_by}
 
-fit-push : (ps : List (List ℕ)) (p : List ℕ) → AllFit ps → length p < 2 ^ 32 → AllFit (ps ++ p ∷ [])
-fit-push [] p fit here = (here, tt)
-fit-push (q ∷ ps) p fit here = (fit.0, fit-push ps p fit.1 here)
+pub fit-append : (ps qs : List (List ℕ)) → AllFit ps → AllFit qs → AllFit (ps ++ qs)
+fit-append [] qs fit more = more
+fit-append (p ∷ ps) qs fit more = (fit.0, fit-append ps qs fit.1 more)
 
 -- the log stays in its file if that one alone is changed, and isn't cut short
 pub chosen_stays : (files : Files) (file : FileNo) (b : List ℕ) → chosen_file files ≡ Some file → 9 ≤ length b → chosen_file (with_contents files file b) ≡ Some file
@@ -34,43 +35,61 @@ chosen_stays files Two b is long = still files.head files.two is
     still [] two is = is
     still (byte ∷ more) two is = grind (arith, nat_tests)
 
-pub payloads_chosen : (files : Files) (file : FileNo) → chosen_file files ≡ Some file → payloads files ≡ log_in (contents files file)
-payloads_chosen files file is = ap (λ o. payloads_in o files) is
+-- files of which one is chosen have a Head
+pub chosen_fit : (files : Files) (file : FileNo) → chosen_file files ≡ Some file → Fit files
+chosen_fit files file is empty = absurd (none-some file (sym (ap (λ (head : List ℕ). chosen_by head files.two) empty) ∙ is))
 
-log_in_holds : (bytes : List ℕ) (gate : ℕ) (ps : List (List ℕ)) → Holds bytes gate ps → log_in bytes ≡ Ok ps
-log_in_holds bytes gate ps holds = ap log_in holds.whole ∙ log_in-records ps holds.byte holds.tail holds.shut holds.each
+pub payloads_chosen : (any : Bool) (files : Files) (file : FileNo) → chosen_file files ≡ Some file → payloads_by any files ≡ log_by any (contents files file)
+payloads_chosen any files file is = ap (λ o. payloads_in any o files) is
 
 -- files that differ in the log's file alone stand for what that file holds
-pub record StandsFor (c : Files) (file : FileNo) (gate : ℕ) (ps : List (List ℕ)) : Type 0 where
+pub record StandsFor (c : Files) (file : FileNo) (gate : ℕ) (old : Bool) (ps : List (List ℕ)) : Type 0 where
   pub is_chosen : chosen_file c ≡ Some file
-  pub is : payloads c ≡ Ok ps
-  pub log : IsLogOf c file gate
+  pub is : (any : Bool) → payloads_by any c ≡ read_by any old (Ok ps)
+  pub log : IsLogOf c file gate old
 
-pub stands_for : (files c : Files) (file : FileNo) (gate : ℕ) (ps : List (List ℕ)) → chosen_file files ≡ Some file → c ≡ with_contents files file (contents c file) → Holds (contents c file) gate ps → StandsFor c file gate ps
-stands_for files c file gate ps is same holds =
-    let long : 9 ≤ length (contents c file) = omega (arith, length-holds _ _ _ holds, holds.place) in
+pub stands_for : (files c : Files) (file : FileNo) (gate : ℕ) (old : Bool) (ps : List (List ℕ)) → chosen_file files ≡ Some file → c ≡ with_contents files file (contents c file) → Holds old (contents c file) gate ps
+    → StandsFor c file gate old ps
+stands_for files c file gate old ps is same holds =
+    let long : 9 ≤ length (contents c file) = omega (arith, length-holds old _ _ _ holds) in
     let still : chosen_file c ≡ Some file = subst (λ f. chosen_file f ≡ Some file) (sym same) (chosen_stays files file (contents c file) is long) in
-    let whole : payloads c ≡ Ok ps = payloads_chosen c file still ∙ log_in_holds _ gate ps holds in
+    let whole : (any : Bool) → payloads_by any c ≡ read_by any old (Ok ps) = λ any. payloads_chosen any c file still ∙ log_by-holds any old _ gate ps holds in
     record {
       is_chosen = still;
       is = whole;
-      log = record { is_chosen = still; holds = subst (λ l. Holds (contents c file) gate l) (sym (ap (λ r. result_unwrap_or r []) whole)) holds };
+      log = record { is_chosen = still; holds = subst (λ l. Holds old (contents c file) gate l) (sym (ap (λ r. result_unwrap_or r []) (whole true))) holds };
     }
 
-module _ (bytes : List ℕ) (gate : ℕ) (ps : List (List ℕ)) (holds : Holds bytes gate ps) where
-  size : length (log_magic ++ flat_map record_of ps) ≡ gate
+taken : (any old : Bool) (before ps : List (List ℕ)) → IsOk (read_by any old (Ok before)) → read_by any old (Ok ps) ≡ Ok ps
+taken true old before ps ok = refl
+taken false true before ps ok = absurd (true≢false (sym ok))
+taken false false before ps ok = refl
+
+-- files that stand for these payloads are read so where the old ones could be read
+pub reads_as : (files c : Files) (file : FileNo) (gate gate' : ℕ) (old : Bool) (ps : List (List ℕ)) → IsLogOf files file gate old → StandsFor c file gate' old ps → ReadsAs files c ps
+reads_as files c file gate gate' old ps log stands = record {
+  reads = λ any ok. stands.is any ∙ taken any old (payloads_of files) ps (subst (λ r. IsOk r) (payloads_chosen any files file log.is_chosen ∙ log_by-holds any old _ gate _ log.holds) ok);
+  fit = chosen_fit c file stands.is_chosen;
+}
+
+module _ (old : Bool) (bytes : List ℕ) (gate : ℕ) (ps : List (List ℕ)) (holds : Holds old bytes gate ps) where
+  pub size : length (magic_of old ++ flat_map record_of ps) ≡ gate
   size = sym holds.place
 
-  gated : bytes ≡ ((log_magic ++ flat_map record_of ps) ++ holds.byte ∷ []) ++ holds.tail
-  gated = holds.whole ∙ sym (append_assoc (log_magic ++ flat_map record_of ps) (holds.byte ∷ []) holds.tail)
+  pub gated : bytes ≡ ((magic_of old ++ flat_map record_of ps) ++ holds.byte ∷ []) ++ holds.tail
+  gated = holds.whole ∙ sym (append_assoc (magic_of old ++ flat_map record_of ps) (holds.byte ∷ []) holds.tail)
 
-  size_gated : length ((log_magic ++ flat_map record_of ps) ++ holds.byte ∷ []) ≡ gate + 1
-  size_gated = omega (arith, size, length-append (log_magic ++ flat_map record_of ps) (holds.byte ∷ []))
+  pub size_gated : length ((magic_of old ++ flat_map record_of ps) ++ holds.byte ∷ []) ≡ gate + 1
+  size_gated = omega (arith, size, length-append (magic_of old ++ flat_map record_of ps) (holds.byte ∷ []))
+
+  -- what stands behind the closed gate
+  pub behind_gate : drop (gate + 1) bytes ≡ holds.tail
+  behind_gate = ap (λ (l : List ℕ). drop (gate + 1) l) gated ∙ drop_at ((magic_of old ++ flat_map record_of ps) ++ holds.byte ∷ []) holds.tail (gate + 1) size_gated
 
   -- the closed gate and all before it
-  pub holds_front : (b : List ℕ) → take (gate + 1) b ≡ take (gate + 1) bytes → Holds b gate ps
+  pub holds_front : (b : List ℕ) → take (gate + 1) b ≡ take (gate + 1) bytes → Holds old b gate ps
   holds_front b same =
-      let shut = (log_magic ++ flat_map record_of ps) ++ holds.byte ∷ [] in
+      let shut = (magic_of old ++ flat_map record_of ps) ++ holds.byte ∷ [] in
       let start : take (gate + 1) b ≡ shut = same ∙ ap (λ (l : List ℕ). take (gate + 1) l) gated ∙ take_at shut holds.tail (gate + 1) size_gated in
       record {
         byte = holds.byte;
@@ -79,73 +98,55 @@ module _ (bytes : List ℕ) (gate : ℕ) (ps : List (List ℕ)) (holds : Holds b
         place = holds.place;
         whole =
             sym (take-append-drop (gate + 1) b) ∙ ap (λ (l : List ℕ). l ++ drop (gate + 1) b) start
-            ∙ append_assoc (log_magic ++ flat_map record_of ps) (holds.byte ∷ []) (drop (gate + 1) b);
+            ∙ append_assoc (magic_of old ++ flat_map record_of ps) (holds.byte ∷ []) (drop (gate + 1) b);
         each = holds.each;
       }
 
-  module _ (p : List ℕ) (fits : length p < 2 ^ 32) where
-    -- the file with a record and a gate behind the closed gate
-    pub staged_rest : List ℕ
-    staged_rest = drop 1 (drop (length p) (drop (length (head_of p)) holds.tail))
+  -- these records stand behind the closed gate, but for the first one's gate, and then a closed one
+  module _ (qs : List (List ℕ)) (body rest : List ℕ) (opens : 1 ∷ body ≡ flat_map record_of qs) (each : AllFit qs) (laid : holds.tail ≡ body ++ 0 ∷ rest) where
+    laid_is : bytes ≡ (magic_of old ++ flat_map record_of ps) ++ holds.byte ∷ (body ++ 0 ∷ rest)
+    laid_is = holds.whole ∙ ap (λ (l : List ℕ). (magic_of old ++ flat_map record_of ps) ++ holds.byte ∷ l) laid
 
-    pub staged_is : staged bytes gate p ≡ (log_magic ++ flat_map record_of ps) ++ holds.byte ∷ ((head_of p ++ p) ++ 0 ∷ staged_rest)
-    unfolding staged_rest
-    staged_is =
-        let shut = (log_magic ++ flat_map record_of ps) ++ holds.byte ∷ [] in
-        let head = head_of p in
-        let t1 = drop (length head) holds.tail in
-        let t2 = drop (length p) t1 in
-        let t3 = drop 1 t2 in
-        let one : overwritten bytes (gate + 1) head ≡ (shut ++ head) ++ t1 = ap (λ (l : List ℕ). overwritten l (gate + 1) head) gated ∙ overwritten_at shut holds.tail head (gate + 1) size_gated in
-        let size1 : length (shut ++ head) ≡ gate + 21 = omega (arith, size_gated, length-append shut head, length-head_of p) in
-        let two : overwritten (overwritten bytes (gate + 1) head) (gate + 21) p ≡ ((shut ++ head) ++ p) ++ t2 =
-        ap (λ (l : List ℕ). overwritten l (gate + 21) p) one ∙ overwritten_at (shut ++ head) t1 p (gate + 21) size1 in
-        let size2 : length ((shut ++ head) ++ p) ≡ gate + 21 + length p = omega (arith, size1, length-append (shut ++ head) p) in
-        ap (λ (l : List ℕ). overwritten l (gate + 21 + length p) (0 ∷ [])) two
-        ∙ overwritten_at ((shut ++ head) ++ p) t2 (0 ∷ []) (gate + 21 + length p) size2
-        ∙ simp append_assoc
-
-    opened : (b : List ℕ) → b ≡ (log_magic ++ flat_map record_of ps) ++ 1 ∷ ((head_of p ++ p) ++ 0 ∷ staged_rest) → Holds b (gate + 21 + length p) (ps ++ p ∷ [])
+    opened : (b : List ℕ) → b ≡ (magic_of old ++ flat_map record_of ps) ++ 1 ∷ (body ++ 0 ∷ rest) → Holds old b (gate + 1 + length body) (ps ++ qs)
     opened b now =
-        let front = log_magic ++ flat_map record_of ps in
-        let more : front ++ record_of p ≡ log_magic ++ flat_map record_of (ps ++ p ∷ []) = flat_map_more record_of log_magic ps p in
+        let front = magic_of old ++ flat_map record_of ps in
+        let more : front ++ flat_map record_of qs ≡ magic_of old ++ flat_map record_of (ps ++ qs) =
+        append_assoc (magic_of old) (flat_map record_of ps) (flat_map record_of qs) ∙ ap (λ (l : List ℕ). magic_of old ++ l) (sym (flat_map-append record_of ps qs)) in
         record {
           byte = 0;
-          tail = staged_rest;
+          tail = rest;
           shut = omega arith;
-          place = omega (arith, holds.place, ap length more, length-append front (record_of p), length-append (head_of p) p, length-head_of p);
-          whole = now ∙ sym (append_assoc front (record_of p) (0 ∷ staged_rest)) ∙ ap (λ (l : List ℕ). l ++ 0 ∷ staged_rest) more;
-          each = fit-push ps p holds.each fits;
+          place = omega (arith, size, ap length more, ap length opens, length-append front (flat_map record_of qs));
+          whole = now ∙ sym (append_assoc front (1 ∷ body) (0 ∷ rest)) ∙ ap (λ (l : List ℕ). l ++ 0 ∷ rest) (ap (λ (l : List ℕ). front ++ l) opens ∙ more);
+          each = fit-append ps qs holds.each each;
         }
 
     -- whatever byte stands at the gate
-    pub either : (b : List ℕ) (x : ℕ) → b ≡ (log_magic ++ flat_map record_of ps) ++ x ∷ ((head_of p ++ p) ++ 0 ∷ staged_rest) → Holds b gate ps ⊎ Holds b (gate + 21 + length p) (ps ++ p ∷ [])
+    either : (b : List ℕ) (x : ℕ) → b ≡ (magic_of old ++ flat_map record_of ps) ++ x ∷ (body ++ 0 ∷ rest) → Holds old b gate ps ⊎ Holds old b (gate + 1 + length body) (ps ++ qs)
     either b x is = elim (cases_eq x 1) [
-      | inl is_open ↦ inr (opened b (is ∙ ap (λ y. (log_magic ++ flat_map record_of ps) ++ y ∷ ((head_of p ++ p) ++ 0 ∷ staged_rest)) is_open))
-      | inr shut ↦ inl (record { byte = x; tail = (head_of p ++ p) ++ 0 ∷ staged_rest; shut = shut; place = holds.place; whole = is; each = holds.each })
+      | inl is_open ↦ inr (opened b (is ∙ ap (λ y. (magic_of old ++ flat_map record_of ps) ++ y ∷ (body ++ 0 ∷ rest)) is_open))
+      | inr shut ↦ inl (record { byte = x; tail = body ++ 0 ∷ rest; shut = shut; place = holds.place; whole = is; each = holds.each })
     ]
 
     -- what a crash leaves of the write at the gate
-    pub torn_gate : (b : List ℕ) → Torn gate 1 (staged bytes gate p) b → Holds b gate ps ⊎ Holds b (gate + 21 + length p) (ps ++ p ∷ [])
+    pub torn_gate : (b : List ℕ) → Torn gate 1 bytes b → Holds old b gate ps ⊎ Holds old b (gate + 1 + length body) (ps ++ qs)
     torn_gate b torn =
-        let front = log_magic ++ flat_map record_of ps in
-        let rest = (head_of p ++ p) ++ 0 ∷ staged_rest in
-        let long : gate < length b = omega (arith, torn.no_shorter, ap length staged_is, length-append front (holds.byte ∷ rest), size) in
-        let whole : min gate (length (staged bytes gate p)) ≡ gate = omega (arith, ap length staged_is, length-append front (holds.byte ∷ rest), size) in
-        let start : take gate b ≡ front = ap (λ n. take n b) (sym whole) ∙ torn.before ∙ ap (λ (l : List ℕ). take gate l) staged_is ∙ take_at front (holds.byte ∷ rest) gate size in
-        let after : drop (gate + 1) b ≡ rest =
-        torn.after ∙ ap (λ (l : List ℕ). drop (gate + 1) l) (staged_is ∙ sym (append_assoc front (holds.byte ∷ []) rest))
-        ∙ drop_at (front ++ holds.byte ∷ []) rest (gate + 1) size_gated in
+        let front = magic_of old ++ flat_map record_of ps in
+        let behind = body ++ 0 ∷ rest in
+        let long : gate < length b = omega (arith, torn.no_shorter, ap length laid_is, length-append front (holds.byte ∷ behind), size) in
+        let whole : min gate (length bytes) ≡ gate = omega (arith, ap length laid_is, length-append front (holds.byte ∷ behind), size) in
+        let start : take gate b ≡ front = ap (λ n. take n b) (sym whole) ∙ torn.before ∙ ap (λ (l : List ℕ). take gate l) laid_is ∙ take_at front (holds.byte ∷ behind) gate size in
+        let after : drop (gate + 1) b ≡ behind = torn.after ∙ (behind_gate ∙ laid) in
         either b (get_or b gate 0) (
         sym (take-append-drop gate b) ∙ ap (λ (l : List ℕ). l ++ drop gate b) start
         ∙ ap (λ (l : List ℕ). front ++ l) (drop_more b gate 0 long ∙ ap (λ (l : List ℕ). get_or b gate 0 ∷ l) after))
 
     -- and the write once it is done
-    pub written_gate : (b : List ℕ) → b ≡ overwritten (staged bytes gate p) gate (1 ∷ []) → Holds b (gate + 21 + length p) (ps ++ p ∷ [])
+    pub written_gate : (b : List ℕ) → b ≡ overwritten bytes gate (1 ∷ []) → Holds old b (gate + 1 + length body) (ps ++ qs)
     written_gate b is =
-        let front = log_magic ++ flat_map record_of ps in
-        let rest = (head_of p ++ p) ++ 0 ∷ staged_rest in
-        let now : b ≡ front ++ 1 ∷ rest =
-        is ∙ ap (λ (l : List ℕ). overwritten l gate (1 ∷ [])) staged_is ∙ overwritten_at front (holds.byte ∷ rest) (1 ∷ []) gate size
-        ∙ append_assoc front (1 ∷ []) rest in
+        let front = magic_of old ++ flat_map record_of ps in
+        let behind = body ++ 0 ∷ rest in
+        let now : b ≡ front ++ 1 ∷ behind =
+        is ∙ ap (λ (l : List ℕ). overwritten l gate (1 ∷ [])) laid_is ∙ overwritten_at front (holds.byte ∷ behind) (1 ∷ []) gate size
+        ∙ append_assoc front (1 ∷ []) behind in
         opened b now

@@ -1,8 +1,16 @@
 mod Added
-mod Appended
+pub mod Appended
 mod Fronts
+pub mod Laying
 mod Made
-mod Records
+pub mod Places
+pub mod Records
+mod Running
 pub mod Sizes
 pub mod Standing
-mod Told
+pub mod Staged
+pub mod Told
+pub mod Walks
+mod Scans
+mod Settling
+mod Windows

@@ -1,3 +1,7 @@
+pub mod Choice
 pub mod LogImage
 pub mod LogState
+pub mod Places
+pub mod RunState
+pub mod Scan
 pub mod Stage

@@ -1,6 +1,6 @@
 -- What three files stand for as a log of payloads. A log is eight bytes and then records, each behind a gate of one byte; it
 -- ends at the first gate that isn't open, and what follows that one isn't read.
-use Rattle.std.specs.Prelude.{◌≡◌, ◌≢◌, ◌⊎◌, ◌<◌, ℕ, zero, suc, ◌+◌, ◌^◌, if◌then◌else◌, ◌==◌, nat_eq, nat_lt, nat_le, codes, List, [], ◌∷◌, ◌++◌, length, take, drop, sum_by, Option, Some, None, Result, Ok, Err}
+use Rattle.std.specs.Prelude.{◌≡◌, ◌≢◌, ◌⊎◌, ◌<◌, ℕ, zero, suc, ◌+◌, ◌^◌, Bool, true, false, ◌&&◌, ◌||◌, if◌then◌else◌, ◌==◌, nat_eq, nat_lt, nat_le, codes, List, [], ◌∷◌, ◌++◌, length, take, drop, sum_by, Option, Some, None, Result, Ok, Err, IsOk}
 use Rattle.std.specs.Int.{w32, to_be_bytes, from_be_bytes}
 use Rattle.std.specs.List.{flat_map}
 use Rattle.std.specs.Result.{result_unwrap_or}
@@ -10,9 +10,17 @@ use Rattle.mt_disk.specs.declared.disk.FileNo.{FileNo}
 use Rattle.mt_disk.specs.declared.disk.FileNo.TheVariants.{One, Two}
 use Rattle.mt_disk.specs.Files.{Files, contents}
 
--- the bytes that a log begins with
+-- the bytes that a log begins with, and those that one of the old version began with
 abbrev pub log_magic : List ℕ
 log_magic = codes "MTLOG002"
+
+abbrev pub old_magic : List ℕ
+old_magic = codes "MTLOG001"
+
+-- the first bytes of a log of the old version, or of this one
+abbrev pub magic_of : Bool → List ℕ
+magic_of true = old_magic
+magic_of false = log_magic
 
 -- the bytes of a log without a payload: the first eight and a gate
 abbrev pub empty_size : ℕ
@@ -38,6 +46,8 @@ log_size ps = empty_size + sum_by (λ p. record_head + length p) ps
 pub data LogFault : Type 0 where
   -- the chosen file is shorter than an empty log, or begins with other bytes
   NotALog : LogFault
+  -- the chosen file begins as a log of the old version
+  OldVersion : LogFault
   -- the open record at this place keeps this MD5, and its payload has that one
   Damaged : ℕ → List ℕ → List ℕ → LogFault
   -- from this place on, a record or a gate wants so many bytes, and only so many are there
@@ -77,12 +87,20 @@ payloads_from (suc most) at (gate ∷ rest) =
     then fault_or (fault_in at rest) (payload_before (payload_in rest) (payloads_from most (at + record_head + length_in rest) (drop (20 + length_in rest) rest)))
     else Ok []
 
--- the payloads of a file
+-- whether a file's first bytes are these
+abbrev pub begins_with : List ℕ → List ℕ → Bool
+begins_with magic bytes = pointwise nat_eq (take 8 bytes) magic
+
+-- the payloads of a file, of either version
 unfoldable pub log_in : List ℕ → Result (List (List ℕ)) LogFault
 log_in bytes =
     if nat_lt (length bytes) empty_size then Err NotALog
-    else if pointwise nat_eq (take 8 bytes) log_magic then payloads_from (length bytes) 8 (drop 8 bytes)
+    else if begins_with log_magic bytes || begins_with old_magic bytes then payloads_from (length bytes) 8 (drop 8 bytes)
     else Err NotALog
+
+-- whether a file is as long as a log, and begins as one of the old version
+unfoldable pub is_old_log : List ℕ → Bool
+is_old_log bytes = nat_le empty_size (length bytes) && begins_with old_magic bytes
 
 -- the file that holds the log, by what Head and Two hold: Two where the first byte of Head is 2 and Two is long enough, else One
 abbrev pub chosen_by : List ℕ → List ℕ → Option FileNo
@@ -93,18 +111,30 @@ chosen_by (byte ∷ more) two = Some (if byte == 2 then if nat_le empty_size (le
 abbrev pub chosen_file : Files → Option FileNo
 chosen_file files = chosen_by files.head files.two
 
+-- the payloads of a file, as an opening reads it that takes the old version too, or doesn't
+abbrev pub log_by : Bool → List ℕ → Result (List (List ℕ)) LogFault
+log_by true bytes = log_in bytes
+log_by false bytes = if is_old_log bytes then Err OldVersion else log_in bytes
+
 -- the payloads of the log in this file; without one the log is empty
-abbrev pub payloads_in : Option FileNo → Files → Result (List (List ℕ)) LogFault
-payloads_in None files = Ok []
-payloads_in (Some file) files = log_in (contents files file)
+abbrev pub payloads_in : Bool → Option FileNo → Files → Result (List (List ℕ)) LogFault
+payloads_in any None files = Ok []
+payloads_in any (Some file) files = log_by any (contents files file)
+
+abbrev pub payloads_by : Bool → Files → Result (List (List ℕ)) LogFault
+payloads_by any files = payloads_in any (chosen_file files) files
 
 -- the payloads of the files' log, or the first fault from the front
 abbrev pub payloads : Files → Result (List (List ℕ)) LogFault
-payloads files = payloads_in (chosen_file files) files
+payloads files = payloads_by false files
+
+-- the same, of a log of either version
+abbrev pub payloads_any : Files → Result (List (List ℕ)) LogFault
+payloads_any files = payloads_by true files
 
 -- the payloads, and none where the log can't be read
 abbrev pub payloads_of : Files → List (List ℕ)
-payloads_of files = result_unwrap_or (payloads files) []
+payloads_of files = result_unwrap_or (payloads_any files) []
 
 -- not both is Head empty and Two as long as a log: the byte that Head gets may not name Two, even torn
 abbrev pub Fit : Files → Type 0
@@ -115,25 +145,30 @@ abbrev pub AllFit : List (List ℕ) → Type 0
 AllFit [] = Unit {0}
 AllFit (p ∷ ps) = (length p < 2 ^ 32) × AllFit ps
 
--- a file holds the records of these payloads, and then a closed gate at this place
-pub record Holds (bytes : List ℕ) (gate : ℕ) (ps : List (List ℕ)) : Type 0 where
+-- a file holds, behind the first bytes of its version, the records of these payloads, and then a closed gate at this place
+pub record Holds (old : Bool) (bytes : List ℕ) (gate : ℕ) (ps : List (List ℕ)) : Type 0 where
   pub byte : ℕ
   pub tail : List ℕ
   pub shut : byte ≢ 1
-  pub place : gate ≡ length (log_magic ++ flat_map record_of ps)
-  pub whole : bytes ≡ (log_magic ++ flat_map record_of ps) ++ byte ∷ tail
+  pub place : gate ≡ length (magic_of old ++ flat_map record_of ps)
+  pub whole : bytes ≡ (magic_of old ++ flat_map record_of ps) ++ byte ∷ tail
   pub each : AllFit ps
 
--- the files' log is in this file, with its closed gate at this place
-pub record IsLogOf (files : Files) (file : FileNo) (gate : ℕ) : Type 0 where
+-- the files' log is in this file, with its closed gate at this place, and of the old version or not
+pub record IsLogOf (files : Files) (file : FileNo) (gate : ℕ) (old : Bool) : Type 0 where
   pub is_chosen : chosen_file files ≡ Some file
-  pub holds : Holds (contents files file) gate (payloads_of files)
+  pub holds : Holds old (contents files file) gate (payloads_of files)
 
--- the same payloads, in files in which a log can be opened
-pub record SameLog (old new : Files) : Type 0 where
-  pub same : payloads new ≡ payloads old
+-- whichever versions an opening takes: where the old files' log can be read, the new ones' can, and it has these payloads
+pub record ReadsAs (old new : Files) (ps : List (List ℕ)) : Type 0 where
+  pub reads : (any : Bool) → IsOk (payloads_by any old) → payloads_by any new ≡ Ok ps
   pub fit : Fit new
 
--- the payloads of before, or these and one more
-abbrev pub IsBeforeOrAfter : Files → List ℕ → Files → Type 0
-IsBeforeOrAfter old payload files = (payloads files ≡ Ok (payloads_of old)) ⊎ (payloads files ≡ Ok (payloads_of old ++ payload ∷ []))
+-- whichever versions an opening takes: the same payloads or the same fault, in files in which a log can be opened
+pub record SameLog (old new : Files) : Type 0 where
+  pub same : (any : Bool) → payloads_by any new ≡ payloads_by any old
+  pub fit : Fit new
+
+-- the payloads of before, or these and then all of these
+abbrev pub IsBeforeOrAfter : Files → List (List ℕ) → Files → Type 0
+IsBeforeOrAfter old more new = ReadsAs old new (payloads_of old) ⊎ ReadsAs old new (payloads_of old ++ more)

@@ -1,12 +1,15 @@
 //! Adding a payload: it counts once its gate is open on the disk.
-ghost use Rattle.std.specs.Prelude.{◌≡◌, ◌↔◌, ◌<◌, ◌+◌, ◌^◌, ◌++◌, ◌∷◌, [], true, false, length, is_some, IfOk, OnOk, IsErrOf};
+ghost use Rattle.std.specs.Prelude.{◌≡◌, Bool, ◌↔◌, ◌<◌, ◌+◌, ◌^◌, ◌++◌, ◌∷◌, [], true, false, length, is_some, IfOk, OnOk, IsErrOf};
 ghost use Rattle.std.specs.Option.{ForSome};
 ghost use Rattle.mt_base.specs.Counts.{HasCause, Rose, NeverFell};
 ghost use Rattle.mt_disk.specs.CrashModel.{Only, LeavesOnly};
 ghost use Rattle.mt_log.specs.LogImage.{IsLogOf, IsBeforeOrAfter, payloads_of};
+ghost use Rattle.mt_log.specs.Stage.{HasLogAt};
+ghost use Rattle.mt_log.specs.Places.{end_of};
 ghost use Rattle.mt_log.specs.LogState.{Tells, Stands, HasRoom, LacksRoom, next_place, with_record, told, with_payload};
 
 use crate::log::{Log, RECORD_HEAD};
+use crate::publish::publish;
 use crate::stage::stage;
 use mt_disk::{Disk, DiskFault, FileNo};
 
@@ -28,20 +31,18 @@ fn add_record<D: Disk>(
     gate: u64,
     payload: &[u8],
 ) -> Result<(), DiskFault>
-    requires stands { ForSome (D.seen disk.old) (λ files. Only files (D.may_leave disk.old) × IsLogOf files file gate) }
+    requires stands { ForSome (D.seen disk.old) (λ files. Only files (D.may_leave disk.old) × HasLogAt files file gate) }
     requires payload { length payload.now < 2 ^ 32 }
     requires fits { next_place gate (length payload.now) + 1 < 2 ^ 64 }
-    ensures added { OnOk result (ForSome (D.seen disk.old) (λ files.
-        Tells D.seen D.may_leave disk.new file (next_place gate (length payload.now)) (payloads_of files ++ payload.now ∷ []))) }
+    ensures added { OnOk result (ForSome (D.seen disk.old) (λ files. (old : Bool) → IsLogOf files file gate old →
+        Tells D.seen D.may_leave disk.new file (next_place gate (length payload.now)) old (payloads_of files ++ payload.now ∷ []))) }
     ensures told { OnOk result (is_some (D.seen disk.new) ≡ is_some (D.seen disk.old)) }
     ensures any_moment { ForSome (D.seen disk.old) (λ files.
-        LeavesOnly D.moment D.left_since disk.old disk.new (IsBeforeOrAfter files payload.now)) }
+        LeavesOnly D.moment D.left_since disk.old disk.new (IsBeforeOrAfter files (payload.now ∷ []))) }
     ensures cause { HasCause (D.faults disk.old) (D.faults disk.new) result }
 {
     stage(disk, file, gate, payload)?;
-    disk.sync(file)?;
-    disk.write_at(file, gate, &[1])?;
-    disk.sync(file)
+    publish(disk, file, gate)
 }
 
 impl Log {
@@ -54,11 +55,13 @@ impl Log {
         // The list of payloads gets this one, and nothing else changes it.
         ensures added { OnOk result (told (D.seen disk.new) ≡ with_payload payload.now (told (D.seen disk.old))) }
         ensures place { IfOk result (λ place. (place ≡ self.old.gate) × (self.new ≡ with_record self.old (length payload.now))) }
+        // The payload stands behind those from before.
+        ensures at_end { IfOk result (λ place. ForSome (told (D.seen disk.old)) (λ ps. place ≡ end_of ps)) }
         ensures stands { Stands D.seen D.may_leave disk.new self.new }
 
         // A crash at any moment of the call leaves the payloads from before it, with the new one or without.
         ensures any_moment { self.old.closed ≡ false → ForSome (D.seen disk.old) (λ files.
-            LeavesOnly D.moment D.left_since disk.old disk.new (IsBeforeOrAfter files payload.now)) }
+            LeavesOnly D.moment D.left_since disk.old disk.new (IsBeforeOrAfter files (payload.now ∷ []))) }
 
         ensures closed { IsErrOf result AppendError.Closed ↔ (self.old.closed ≡ true) }
         ensures full { IsErrOf result AppendError.Full ↔ ((self.old.closed ≡ false) × LacksRoom self.old (length payload.now)) }

@@ -2,20 +2,36 @@
 //! leaves the payloads of before, with the new one or without.
 //!
 //! - `log`: the value that callers hold.
-//! - `open`: makes the log of a disk that has none.
-//! - `append`: adds a payload; `stage` writes it behind the closed gate.
-//! - `specs/LogImage`: the payloads that the bytes of three files stand for.
-//! - `specs/LogState`: how a log stands over its disk.
+//! - `open`: reads the log that is there, or makes one. `choose` finds its file, `scan` reads it through a `window`,
+//!   `new_log` makes one; `create` makes one and no other.
+//! - `append`: adds a payload; `stage` writes it behind the closed gate, and `publish` opens the gate.
+//! - `run`: adds many at once; `lay` writes them.
+//! - `read`: payloads by their places.
+//! - `specs/LogImage`: the payloads that the bytes of three files stand for. `specs/Places`: where they stand.
+//! - `specs/LogState`, `specs/RunState`: how a log, and a run, stand over a disk.
 #![tactic(auto)]
 
 mod append;
+mod choose;
+mod create;
+mod lay;
 mod log;
+mod new_log;
 mod open;
+mod publish;
+mod read;
+mod refusal;
+mod run;
+mod scan;
 mod stage;
+mod window;
 
 pub use append::AppendError;
+pub use create::CreateError;
 pub use log::Log;
-pub use open::OpenError;
+pub use read::ReadFault;
+pub use refusal::OpenError;
+pub use run::Run;
 
 #[cfg(test)]
 mod tests;

@@ -5,6 +5,9 @@ use std::marker::Model;
 /// The bytes that a log begins with.
 pub(crate) const MAGIC: u64 = 8;
 
+/// The bytes of a log without a payload: the first eight and a gate.
+pub(crate) const EMPTY_LEN: u64 = MAGIC + 1;
+
 /// What a record has beside its payload: gate, length and MD5.
 pub(crate) const RECORD_HEAD: u64 = 1 + 4 + 16;
 
@@ -15,6 +18,7 @@ pub struct Log {
     pub(crate) gate: u64,
     pub(crate) limit: u64,
     pub(crate) closed: bool,
+    pub(crate) is_old: bool,
 }
 
 impl Model for Log {
@@ -23,13 +27,14 @@ impl Model for Log {
 
     ghost Value = { LogState };
 
-    ghost view = { λ l. record { file = l.file; gate = l.gate; limit = l.limit; closed = l.closed } };
+    ghost view = { λ l. record { file = l.file; gate = l.gate; limit = l.limit; closed = l.closed; is_old = l.is_old } };
 
     ghost invariant = { λ l. l.gate + 1 < 2 ^ 64 };
 }
 
 impl Log {
-    ghost use Rattle.std.specs.Prelude.{◌≡◌, ◌↔◌, ◌+◌, IsTrue, length};
+    ghost use Rattle.std.specs.Prelude.{◌≡◌, ◌↔◌, ◌+◌, ℕ, List, IsTrue, length};
+    ghost use Rattle.mt_log.specs.Places.{from_place};
     ghost use Rattle.mt_log.specs.LogImage.{log_magic};
     ghost use Rattle.mt_log.specs.LogState.{HasRoom};
 
@@ -42,7 +47,8 @@ impl Log {
 
     /// The place of the first record, or of the closed gate where there is none.
     pub fn first(&self) -> u64
-        ensures { result ≡ length log_magic }
+        ensures place { result ≡ length log_magic }
+        ensures all { (ps : List (List ℕ)) → from_place result ps ≡ ps }
     {
         MAGIC
     }

@@ -3,16 +3,16 @@ ghost use Rattle.std.specs.Prelude.{◌≡◌, ◌<◌, ◌+◌, ◌^◌, length
 ghost use Rattle.std.specs.Option.{ForSome};
 ghost use Rattle.mt_base.specs.Counts.{HasCause};
 ghost use Rattle.mt_disk.specs.CrashModel.{Only, LeavesOnly};
-ghost use Rattle.mt_log.specs.LogImage.{IsLogOf, head_of};
+ghost use Rattle.mt_log.specs.LogImage.{head_of};
 ghost use Rattle.mt_log.specs.LogState.{next_place};
-ghost use Rattle.mt_log.specs.Stage.{staged, changed, KeepsFront};
+ghost use Rattle.mt_log.specs.Stage.{staged, changed, HasLogAt, KeepsFront};
 
 use crate::log::RECORD_HEAD;
 use md5::{Digest, Md5};
 use mt_disk::{Disk, DiskFault, FileNo};
 
-// The length and the MD5 of a payload.
-fn head_bytes(payload: &[u8]) -> [u8; 20]
+/// The length and the MD5 of a payload.
+pub(crate) fn head_bytes(payload: &[u8]) -> [u8; 20]
     requires { length payload.now < 2 ^ 32 }
     ensures { result ≡ head_of payload.now }
 {
@@ -30,7 +30,7 @@ pub(crate) fn stage<D: Disk>(
     gate: u64,
     payload: &[u8],
 ) -> Result<(), DiskFault>
-    requires stands { ForSome (D.seen disk.old) (λ files. Only files (D.may_leave disk.old) × IsLogOf files file gate) }
+    requires stands { ForSome (D.seen disk.old) (λ files. Only files (D.may_leave disk.old) × HasLogAt files file gate) }
     requires payload { length payload.now < 2 ^ 32 }
     requires fits { next_place gate (length payload.now) + 1 < 2 ^ 64 }
     ensures staged { OnOk result (D.seen disk.new ≡ changed file (λ bytes. staged bytes gate payload.now) (D.seen disk.old)) }

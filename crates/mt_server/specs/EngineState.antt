@@ -31,6 +31,7 @@ IsHistoryOf (Some files) h = HasHistory files h
 pub record IsCurrent (tells : Bool) (seen : Option Files) (engine : EngineState) (h : History) : Type 0 where
   pub telling : is_some seen ≡ tells
   pub is_open : engine.log.closed ≡ false
+  pub version : engine.log.is_old ≡ false
   pub state : engine.state ≡ replay h
   pub size : engine.log.gate + 1 ≡ log_size (payloads_of_history h)
   pub log : (files : Files) → seen ≡ Some files → payloads_of files ≡ payloads_of_history h
@@ -51,7 +52,7 @@ AllHaveEither images h added = (c : Files) → images c → HasHistory c h ⊎ H
 abbrev pub Writes : List ℕ → (seen : Option Files) (old : EngineState) (faults : ℕ) → Accepted → (seen' : Option Files) (new : EngineState) (faults' : ℕ) (images : Files → Type 0) → Type 0
 Writes payload seen old faults accepted.Added seen' new faults' images = (told seen' ≡ with_payload payload (told seen)) × (new ≡ record old { log = with_record old.log (length payload) }) × NeverFell faults faults'
 Writes payload seen old faults accepted.DiskFault seen' new faults' images =
-    ((files : Files) → seen ≡ Some files → (c : Files) → images c → IsBeforeOrAfter files payload c) × (new ≡ record old { log = record old.log { closed = true } }) × Rose faults faults'
+    ((files : Files) → seen ≡ Some files → (c : Files) → images c → IsBeforeOrAfter files (payload ∷ []) c) × (new ≡ record old { log = record old.log { closed = true } }) × Rose faults faults'
 Writes payload seen old faults accepted.Full seen' new faults' images = ⊥
 Writes payload seen old faults accepted.Memory seen' new faults' images = ⊥
 

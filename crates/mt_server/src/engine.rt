@@ -1,9 +1,9 @@
 //! The engine: the objects of an account, and the log that they are made from.
-ghost use Rattle.std.specs.Prelude.{◌≡◌, ◌≢◌, ◌+◌, ◌≤◌, ◌<◌, ◌^◌, ℕ, [], Err, Option, option_map, is_some, length, IfOk, OnOk, OnErr, IsErrOf, false, IsTrue, ◌↔◌, Bool};
+ghost use Rattle.std.specs.Prelude.{◌≡◌, ◌≢◌, ◌+◌, ◌≤◌, ◌<◌, ◌^◌, ℕ, [], Err, Option, option_map, is_some, length, IsOk, IfOk, OnOk, OnErr, IsErrOf, false, IsTrue, ◌↔◌, Bool};
 ghost use Rattle.std.specs.Option.{ForSome};
 ghost use Rattle.mt_base.specs.Counts.{Rose, NeverFell};
 ghost use Rattle.mt_disk.specs.CrashModel.{IsAtRest, LeavesOnly, Untouched};
-ghost use Rattle.mt_log.specs.LogImage.{Fit, SameLog};
+ghost use Rattle.mt_log.specs.LogImage.{Fit, SameLog, payloads};
 ghost use Rattle.mt_log.specs.LogState.{HasRoom, Stands, told};
 ghost use Rattle.mt_server.specs.EngineState.{IsCurrent, IsHistoryOf, Accepts, Writes, has_room, told_images};
 ghost use Rattle.std.specs.Prelude.{◌⊎◌};
@@ -18,7 +18,7 @@ use crate::put::{Put, encode};
 use crate::types::Engine;
 use mt_base::Bytes;
 use mt_disk::Disk;
-use mt_log::{AppendError, Log, OpenError};
+use mt_log::{AppendError, CreateError, Log};
 use std::alloc::{AllocError, Global};
 use std::collections::BTreeMap;
 
@@ -26,27 +26,27 @@ use std::collections::BTreeMap;
 const MOST_COMMANDS: u64 = (1 << 50) - 1;
 
 impl Engine {
-    /// Opens the log of a disk, which may get `limit` bytes long.
+    /// Makes the log of a new store, which may get `limit` bytes long.
     pub(crate) fn open<D: Disk>(
         alloc: Global,
         disk: &mut D,
         limit: u64,
-    ) -> Result<Engine, OpenError>
+    ) -> Result<Engine, CreateError>
         requires rest { IsAtRest D.seen D.may_leave disk.old }
         requires fit { ForSome (D.seen disk.old) Fit }
         ensures current { (h : History) → IsHistoryOf (D.seen disk.old) h → IfOk result (λ engine. IsCurrent (is_some (D.seen disk.old)) (D.seen disk.new) engine h) }
         ensures limit { IfOk result (λ engine. engine.log.limit ≡ limit) }
         ensures live { IfOk result (λ engine. engine.log.closed ≡ false) }
         ensures stands { IfOk result (λ engine. Stands D.seen D.may_leave disk.new engine.log) }
-        ensures same { result ≢ Err OpenError.Disk → told (D.seen disk.new) ≡ told (D.seen disk.old) }
-        ensures untouched { IsErrOf result OpenError.NotBuilt → Untouched D.seen D.may_leave D.moment D.left_since disk.old disk.new }
-        ensures not_built { IsErrOf result OpenError.NotBuilt → ForSome (D.seen disk.old) (λ files. files.head ≢ []) }
+        ensures same { result ≢ Err CreateError.Disk → told (D.seen disk.new) ≡ told (D.seen disk.old) }
+        ensures untouched { IsErrOf result CreateError.Exists → Untouched D.seen D.may_leave D.moment D.left_since disk.old disk.new }
+        ensures not_built { IsErrOf result CreateError.Exists → ForSome (D.seen disk.old) (λ files. files.head ≢ []) }
         ensures made { OnOk result (ForSome (D.seen disk.old) (λ files. files.head ≡ [])) }
         ensures any_moment { ForSome (D.seen disk.old) (λ files. LeavesOnly D.moment D.left_since disk.old disk.new (SameLog files)) }
-        ensures disk { IsErrOf result OpenError.Disk → Rose (D.faults disk.old) (D.faults disk.new) }
+        ensures disk { IsErrOf result CreateError.Disk → Rose (D.faults disk.old) (D.faults disk.new) }
         ensures faults { NeverFell (D.faults disk.old) (D.faults disk.new) }
     {
-        let log = Log::open(disk, limit)?;
+        let log = Log::create(disk, limit)?;
         Ok(Engine {
             log,
             rows: BTreeMap::new(alloc),
@@ -102,6 +102,7 @@ impl Engine {
         requires small { length payload.now < 2 ^ 32 }
         ensures written { (tells : Bool) → Writes payload.now (D.seen disk.old) self.old (D.faults disk.old) result (D.seen disk.new) self.new (D.faults disk.new)
             (told_images tells (D.may_leave disk.new)) }
+        ensures read { ForSome (D.seen disk.old) (λ files. self.old.log.is_old ≡ false → IsOk (payloads files)) }
         ensures stands { Stands D.seen D.may_leave disk.new self.new.log }
         ensures limit { self.new.log.limit ≡ self.old.log.limit }
         ensures live { result ≢ Accepted.DiskFault → self.new.log.closed ≡ false }

@@ -18,7 +18,7 @@ use crate::status::Status;
 use crate::types::Engine;
 use mt_disk::Disk;
 use mt_edge::{Clock, Joined, Sink, Source, write_all};
-use mt_log::OpenError;
+use mt_log::CreateError;
 use std::alloc::Global;
 
 /// As many messages as one connection has.
@@ -85,11 +85,11 @@ fn session<S: Source, K: Sink, D: Disk, C: Clock>(
             disk,
             clock,
         )),
-        Err(OpenError::NotBuilt) => {
+        Err(CreateError::Exists) => {
             say(sink, b"mantad: existing logs are not built yet\n");
             Status::UnreadableLog
         }
-        Err(OpenError::Disk) => Status::OpeningFault,
+        Err(CreateError::Disk) => Status::OpeningFault,
     }
 }
 

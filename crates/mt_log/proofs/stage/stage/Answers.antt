@@ -12,8 +12,9 @@ pub returns-in_err-write_at-2-clause-any_moment : goal.returns-in_err-write_at-2
 returns-in_err-write_at-2-clause-any_moment g c files is =
     let d = g.D.Disk in
     let P = KeepsFront files c.args.file c.args.gate in
+    let stands = c.requires.stands files is in
     let behind = front_torn files c.args.file c.args.gate in
-    let zero = front_begun d.moment d.left_since d.may_leave c.args.disk.now files c.args.file c.args.gate (g.met.D.Disk.only_now c.args.disk.now) (c.requires.stands files is) in
+    let zero = front_begun d.moment d.left_since d.may_leave c.args.disk.now files c.args.file c.args.gate stands.1.0 (g.met.D.Disk.only_now c.args.disk.now) (stands.0, stands.1.1) in
     let one = keeps d.moment d.left_since d.may_leave _ _ _ P _ zero c.write_at.ensures.crash c.write_at.ensures.time (behind _ _ (omega arith)) in
     let two = keeps d.moment d.left_since d.may_leave _ _ _ P _ one c.write_at-2.ensures.crash c.write_at-2.ensures.time (behind _ _ (omega arith)) in
     two.run
@@ -22,7 +23,7 @@ pub write_at-requires-3 : goal.write_at-requires-3
 write_at-requires-3 g c files is =
     let two = before _ _ c.args.file (λ bytes. overwritten bytes (c.args.gate + 21) c.args.payload.now) files c.in_ok-write_at-2.ensures.written is in
     let one = before _ _ c.args.file (λ bytes. overwritten bytes (c.args.gate + 1) c.head_bytes.result) two.files c.in_ok-write_at.ensures.written two.was in
-    let first = length-holds _ _ _ (c.requires.stands one.files one.was).1.holds in
+    let first = (length-holds _ _ _ _ (c.requires.stands one.files one.was).1.1.holds).1 in
     let head = ap length c.head_bytes.ensures ∙ length-head_of c.args.payload.now in
     let bytes = two.now ∙ ap (λ (b : List ℕ). overwritten b (c.args.gate + 21) c.args.payload.now) one.now in
     omega (arith, ap length bytes, length-record (contents one.files c.args.file) c.args.gate c.head_bytes.result c.args.payload.now first head)
@@ -31,8 +32,9 @@ pub returns-clause-any_moment : goal.returns-clause-any_moment
 returns-clause-any_moment g c files is =
     let d = g.D.Disk in
     let P = KeepsFront files c.args.file c.args.gate in
+    let stands = c.requires.stands files is in
     let behind = front_torn files c.args.file c.args.gate in
-    let zero = front_begun d.moment d.left_since d.may_leave c.args.disk.now files c.args.file c.args.gate (g.met.D.Disk.only_now c.args.disk.now) (c.requires.stands files is) in
+    let zero = front_begun d.moment d.left_since d.may_leave c.args.disk.now files c.args.file c.args.gate stands.1.0 (g.met.D.Disk.only_now c.args.disk.now) (stands.0, stands.1.1) in
     let one = keeps d.moment d.left_since d.may_leave _ _ _ P _ zero c.write_at.ensures.crash c.write_at.ensures.time (behind _ _ (omega arith)) in
     let two = keeps d.moment d.left_since d.may_leave _ _ _ P _ one c.write_at-2.ensures.crash c.write_at-2.ensures.time (behind _ _ (omega arith)) in
     let three = keeps d.moment d.left_since d.may_leave _ _ _ P _ two c.write_at-3.ensures.crash c.write_at-3.ensures.time (behind _ _ (omega arith)) in

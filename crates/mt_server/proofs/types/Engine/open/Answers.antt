@@ -14,6 +14,7 @@ returns-clause-current g c h is =
     record {
       telling = same_telling _ _ (c.in_ok-log.ensures.same (λ e. cc e));
       is_open = c.in_ok-log.ensures.opened.is_open;
+      version = c.in_ok-log.ensures.version;
       state = rows ∙ sym (ap replay none);
       size = omega (arith, c.in_ok-log.ensures.fresh, ap (λ (h : History). log_size (payloads_of_history h)) none);
       log = λ files told. first_log _ _ (c.in_ok-log.ensures.same (λ e. cc e)) c.in_ok-log.ensures.made files told ∙ sym (ap payloads_of_history none);
