@@ -1,5 +1,0 @@
-use Rattle.mt_http.proofs.Places.{place_one}
-use Rattle.mt_http.proofs.receive.place_is_one.Goals as goal
-
-pub returns : goal.returns
-returns c = place_one
