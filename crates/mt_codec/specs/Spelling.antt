@@ -28,36 +28,45 @@ use Rattle.mt_codec.specs.Fields.{text_spelling, long_text_spelling, path_spelli
 
 -- ---- the grammar: each field, one after the other
 
+-- one byte
 abbrev pub byte_spelling : ℕ → List ℕ
 byte_spelling n = n ∷ []
 
+-- a piece of metadata: its name and its value
 unfoldable pub field_spelling : Field → List ℕ
 field_spelling f = text_spelling f.name ++ text_spelling f.value
 
+-- how many, and each
 unfoldable pub metadata_spelling : List Field → List ℕ
 metadata_spelling fields = length fields ∷ flat_map field_spelling fields
 
+-- a map phase is a 0, a reduce phase a 1 and the number of its reducers
 unfoldable pub kind_spelling : PhaseKind → List ℕ
 kind_spelling Map = 0 ∷ []
 kind_spelling (Reduce count) = 1 ∷ big_endian_32 count
 
+-- kind, command line, perhaps a command line before it, and the names of its assets
 unfoldable pub phase_spelling : Phase → List ℕ
 phase_spelling p =
     kind_spelling p.kind ++ long_text_spelling p.exec ++ optional_spelling long_text_spelling p.init
     ++ (length p.assets ∷ flat_map path_spelling p.assets)
 
+-- the name of the job, and its phases
 unfoldable pub document_spelling : JobDocument → List ℕ
 document_spelling d = long_text_spelling d.name ++ (length d.phases ∷ flat_map phase_spelling d.phases)
 
+-- a path behind a 0, any other text behind a 1
 unfoldable pub line_spelling : InputLine → List ℕ
 line_spelling (Named p) = 0 ∷ path_spelling p
 line_spelling (Other t) = 1 ∷ long_text_spelling t
 
+-- an emit is 1, a keep 2, a ref 3
 unfoldable pub record_spelling : TaskRecord Body → List ℕ
 record_spelling (Emit place reducer body) = 1 ∷ (optional_spelling path_spelling place ++ optional_spelling big_endian_32 reducer ++ body_spelling body)
 record_spelling (Keep place body) = 2 ∷ (path_spelling place ++ body_spelling body)
 record_spelling (Ref name) = 3 ∷ path_spelling name
 
+-- the byte of a failure
 abbrev pub failure_number : TaskFailure → ℕ
 failure_number UserTaskError = 1
 failure_number TaskOutputTooLarge = 2
@@ -65,14 +74,17 @@ failure_number TaskRecordError = 3
 failure_number TaskPlaceRefused = 4
 failure_number TaskObjectMissing = 5
 
+-- a good one is a 0 and its records, a bad one a 1, the failure, the status and a front of standard error
 unfoldable pub fate_spelling : Fate Body → List ℕ
 fate_spelling (Good records) = 0 ∷ (big_endian_16 (length records) ++ flat_map record_spelling records)
 fate_spelling (Bad failure status stderr) = 1 ∷ (byte_spelling (failure_number failure) ++ big_endian_32 status ++ text_spelling stderr)
 
+-- no and yes
 abbrev pub flag_number : Bool → ℕ
 flag_number false = 0
 flag_number true = 1
 
+-- five bodies, in the order of the names of their objects
 unfoldable pub archive_spelling : Archive Body → List ℕ
 archive_spelling a = body_spelling a.err ++ body_spelling a.fail ++ body_spelling a.input ++ body_spelling a.status ++ body_spelling a.out
 
@@ -115,17 +127,21 @@ abbrev pub Typed : Bool → Type 0 → Type 0
 Typed true P = P
 Typed false P = ⊤
 
+-- a body without bytes has the place 0; its place and its length have eight bytes each
 pub record FitsBody (typed : Bool) (b : Body) : Type 0 where
   pub placed : IsTrue (is_placed b)
   pub first : Typed typed (b.first < 2 ^ 64)
   pub len : Typed typed (b.len < 2 ^ 64)
 
+-- a path of an account
 abbrev pub FitsPath : Bool → AccountPath → Type 0
 FitsPath typed p = Typed typed (IsPath p)
 
+-- a text is UTF-8
 abbrev pub FitsText : Bool → List ℕ → Type 0
 FitsText typed t = Typed typed (IsTrue (is_utf8 t))
 
+-- the number of a reducer has four bytes
 abbrev pub FitsReducer : Bool → Option ℕ → Type 0
 FitsReducer typed reducer = Typed typed (IfSome reducer (λ n. n < 2 ^ 32))
 
@@ -133,18 +149,22 @@ FitsReducer typed reducer = Typed typed (IfSome reducer (λ n. n < 2 ^ 32))
 abbrev pub FitsField : Field → Type 0
 FitsField f = IsTrue (is_metadata_name f.name) × IsTrue (is_plain_text f.value)
 
+-- few enough, each of a good name and value, and sorted within the room for all
 pub record FitsMetadata (fields : List Field) : Type 0 where
   pub few : length fields ≤ MOST_METADATA
   pub each : AllByRecursion FitsField fields
   pub all : IsTrue (is_metadata fields)
 
+-- a reduce phase has a number of reducers within the limit
 abbrev pub FitsKind : PhaseKind → Type 0
 FitsKind Map = ⊤
 FitsKind (Reduce count) = IsTrue (is_count count)
 
+-- a command line within the limit
 abbrev pub FitsCommandLine : Bool → List ℕ → Type 0
 FitsCommandLine typed t = IsTrue (is_command_line t) × FitsText typed t
 
+-- command lines within their limits, and few enough assets
 pub record FitsPhase (typed : Bool) (p : Phase) : Type 0 where
   pub kind : FitsKind p.kind
   pub exec : FitsCommandLine typed p.exec
@@ -152,6 +172,7 @@ pub record FitsPhase (typed : Bool) (p : Phase) : Type 0 where
   pub few : length p.assets ≤ MOST_ASSETS
   pub assets : AllByRecursion (FitsPath typed) p.assets
 
+-- a name within its limit, one phase at least and few enough
 pub record FitsDocument (typed : Bool) (d : JobDocument) : Type 0 where
   pub name : IsTrue (is_job_name d.name)
   pub text : FitsText typed d.name
@@ -159,19 +180,23 @@ pub record FitsDocument (typed : Bool) (d : JobDocument) : Type 0 where
   pub few : length d.phases ≤ MOST_PHASES
   pub phases : AllByRecursion (FitsPhase typed) d.phases
 
+-- a path, or a text of one line that is not empty
 abbrev pub FitsLine : Bool → InputLine → Type 0
 FitsLine typed (Named p) = FitsPath typed p
 FitsLine typed (Other t) = IsTrue (is_line_text t) × (length t < 2 ^ 32) × FitsText typed t
 
+-- the paths and the body of a record
 abbrev pub FitsRecord : Bool → TaskRecord Body → Type 0
 FitsRecord typed (Emit place reducer body) = IfSome place (FitsPath typed) × FitsReducer typed reducer × FitsBody typed body
 FitsRecord typed (Keep place body) = FitsPath typed place × FitsBody typed body
 FitsRecord typed (Ref name) = FitsPath typed name
 
+-- few enough records, or a short front of standard error
 abbrev pub FitsFate : Bool → Fate Body → Type 0
 FitsFate typed (Good records) = (length records ≤ MOST_RECORDS) × AllByRecursion (FitsRecord typed) records
 FitsFate typed (Bad failure status stderr) = Typed typed (status < 2 ^ 32) × (length stderr ≤ LONGEST_STDERR)
 
+-- each of the five bodies
 pub record FitsArchive (typed : Bool) (a : Archive Body) : Type 0 where
   pub err : FitsBody typed a.err
   pub fail : FitsBody typed a.fail
@@ -179,6 +204,7 @@ pub record FitsArchive (typed : Bool) (a : Archive Body) : Type 0 where
   pub status : FitsBody typed a.status
   pub out : FitsBody typed a.out
 
+-- what a put gives an object, and where
 pub record FitsPut (typed : Bool) (p : AccountPath) (t : List ℕ) (b : Body) (d : Option ℕ) (fields : List Field) : Type 0 where
   pub path : FitsPath typed p
   pub content_type : IsTrue (is_content_type t)
@@ -204,6 +230,7 @@ FitsFields typed (PutPart upload index body moment) = IsTrue (is_number upload) 
 FitsFields typed (CommitUpload upload parts body moment) = IsTrue (is_number upload) × (length parts < 2 ^ 16) × Typed typed (AllByRecursion (λ n. n < 2 ^ 64) parts) × FitsBody typed body
 FitsFields typed (AbortUpload upload moment) = IsTrue (is_number upload)
 
+-- the moment of a command
 abbrev pub moment_of : Command Body → ℕ
 moment_of (Put path content_type body durability metadata moment) = moment
 moment_of (MakeDirectory path moment) = moment
@@ -221,6 +248,7 @@ moment_of (PutPart upload index body moment) = moment
 moment_of (CommitUpload upload parts body moment) = moment
 moment_of (AbortUpload upload moment) = moment
 
+-- the moment and the fields of a command are within their limits
 pub record Fits (typed : Bool) (command : Command Body) : Type 0 where
   pub moment : IsTrue (is_moment (moment_of command))
   pub fields : FitsFields typed command
@@ -235,6 +263,7 @@ HasSpelling command = Fits true command
 
 -- ---- commands apart from digests
 
+-- a body with sixteen zero bytes in the place of its digest
 abbrev pub undigested_body : Body → Body
 undigested_body b = record { first = b.first; len = b.len; md5 = replicate 16 0 }
 
