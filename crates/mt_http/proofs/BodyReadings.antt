@@ -19,7 +19,7 @@ use Rattle.mt_http.proofs.Bodies.{told_control, told_cut, told_over, told_data}
 pub goes_nowhere : (s : BodyState) (left : Option (List ℕ)) → Goes s left [] s left
 goes_nowhere s left = record { used = []; gone = left_all left; leads = record { leads = λ rest. refl } }
 
-with_both : (xs ys : List ℕ) (told : Told) → with_bytes xs (with_bytes ys told) ≡ with_bytes (xs ++ ys) told
+pub with_both : (xs ys : List ℕ) (told : Told) → with_bytes xs (with_bytes ys told) ≡ with_bytes (xs ++ ys) told
 with_both xs ys told = ap (λ l. record told { body = l }) (sym (append_assoc xs ys told.body))
 
 leads_on : (s : BodyState) (used xs : List ℕ) (m : BodyState) (used' ys : List ℕ) (s' : BodyState) → LeadsTo s used xs m → LeadsTo m used' ys s' → LeadsTo s (used ++ used') (xs ++ ys) s'

@@ -2,6 +2,7 @@ pub mod Bodies
 pub mod BodyReadings
 pub mod BodySteps
 pub mod ChunkLines
+pub mod ChunkedBodies
 pub mod EndsWith
 pub mod FramingLemmas
 pub mod Heads

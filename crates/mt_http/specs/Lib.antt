@@ -1,6 +1,7 @@
 pub mod Body
 pub mod BodyReading
 pub mod Chunk
+pub mod Chunked
 pub mod Framing
 pub mod Message
 pub mod Messages

@@ -2,6 +2,7 @@
 ghost use Rattle.std.specs.Prelude.{◌≡◌, ◌↔◌, ℕ, List, [], Some};
 ghost use Rattle.httparse.specs.Grammar.{ChunkLine, ReadsChunkLine, chunk_size};
 ghost use Rattle.mt_http.specs.Chunk.{chunk_line_size};
+ghost use Rattle.mt_http.specs.Chunked.{ChunksAreRead};
 ghost use Rattle.mt_http.specs.Framing.{PlaceIsOne};
 ghost use Rattle.mt_http.specs.Messages.{InterimIsOne, MessagesAreOne};
 
@@ -23,4 +24,9 @@ pub fn interim_is_one()
 /// A line tells a size exactly where it is a chunk line of the parser's grammar, and then that line's size.
 pub fn chunk_lines_are_of_the_grammar()
     ensures { (line : List ℕ) (n : ℕ) → (chunk_line_size line ≡ Some n) ↔ ((l : ChunkLine) × ReadsChunkLine line l [] × (chunk_size l ≡ n)) }
+{}
+
+/// What the grammar calls a chunked body (RFC 9112, section 7.1) is read as one.
+pub fn chunks_are_read()
+    ensures { ChunksAreRead }
 {}
