@@ -3,7 +3,7 @@
 //!
 //! - `log`: the value that callers hold.
 //! - `open`: reads the log that is there, or makes one. `choose` finds its file, `scan` reads it through a `window`,
-//!   `new_log` makes one; `create` makes one and no other.
+//!   `new_log` makes one.
 //! - `append`: adds a payload; `stage` writes it behind the closed gate, and `publish` opens the gate.
 //! - `run`: adds many at once; `lay` writes them.
 //! - `read`: payloads by their places.
@@ -13,7 +13,6 @@
 
 mod append;
 mod choose;
-mod create;
 mod lay;
 mod log;
 mod new_log;
@@ -27,7 +26,6 @@ mod stage;
 mod window;
 
 pub use append::AppendError;
-pub use create::CreateError;
 pub use log::Log;
 pub use read::ReadFault;
 pub use refusal::OpenError;

@@ -1,18 +1,18 @@
 -- What the bytes and the counts say of a status.
-use Rattle.std.proofs.Common.{◌≡◌, ℕ, ◌+◌, ◌-◌, ◌≤◌, ◌<◌, suc, zero, List, [], ◌∷◌, ◌++◌, length, Option, Some, None, Bool, true, false, inl, inr, refl, ap, sym, subst, ◌∙◌, arith, append_assoc, ◌||◌}
+use Rattle.std.proofs.Common.{◌≡◌, ℕ, ◌+◌, ◌-◌, suc, zero, List, [], ◌∷◌, ◌++◌, length, Option, Some, None, Bool, true, false, inl, inr, refl, sym, subst, ◌∙◌, arith, append_assoc, ◌||◌}
 use Rattle.std.specs.Prelude.{IfSome}
 use Rattle.std.specs.Bool.{MatchBool}
 use Rattle.std.specs.Option.{ForSome}
 use Rattle.std.specs.List.{flat_map, list_any}
 use Rattle.std.proofs.lemmas.Option.{IfSome_then}
-use Rattle.mt_base.specs.Counts.{NeverFell, Rose}
+use Rattle.mt_base.specs.Counts.{Rose}
 use Rattle.mt_disk.specs.Files.{Files}
-use Rattle.mt_edge.specs.Stream.{LeftAfter}
 use Rattle.mt_edge.proofs.Streams.{if_some_before}
 use Rattle.mt_http.specs.Framing.{Place, PlaceAt}
 use Rattle.mt_http.proofs.Places.{place_one}
 use Rattle.mt_server.specs.Answer.{closes}
-use Rattle.mt_server.specs.EngineState.{IsHistoryOf}
+use Rattle.mt_server.specs.EngineState.{OverHistory}
+use Rattle.mt_server.specs.Opening.{IsReadable}
 use Rattle.mt_server.specs.Outcomes.{ByEnd, LeadsTo, Outcome, OutcomeAt, OutcomeIsOne}
 use Rattle.mt_server.specs.Sides.{Sides, sides}
 use Rattle.mt_server.specs.Statuses.{ByBytes, ByCounts, IsBegun, Session, most_messages}
@@ -25,7 +25,6 @@ use Rattle.mt_server.specs.declared.reply.ErrorCode.TheVariants as error
 use Rattle.mt_server.specs.declared.status.Status.{Status}
 use Rattle.mt_server.specs.declared.status.Status.TheVariants as status
 use Rattle.mt_server.proofs.Runs.{any_none}
-use Rattle.mt_server.proofs.Currents.{fresh_history}
 
 all_some : {A : Type 0} (o : Option A) {P : A → Type 0} → ((a : A) → P a) → IfSome o P
 all_some None f = tt
@@ -89,12 +88,12 @@ end_outcome gives login limit most old xs mid ended.SinkFault new named r e = al
 end_outcome gives login limit most old xs mid ended.DiskFault new named r e = all_some old.left (λ bytes. tt)
 end_outcome gives login limit most old xs mid ended.Memory new named r e = all_some old.left (λ bytes. tt)
 
-session_bytes : (gives : ℕ → Type 0) (login : List ℕ) (images : Files → Type 0) (old : Sides) (s : Status) (new : Sides) → Session gives login images old s new → IfSome old.left (λ bytes. ByBytes bytes s)
-session_bytes gives login images old (status.Served end) new s = end_outcome gives login _ most_messages old s.0.exchanges s.0.middle end new s.0.named s.0.ran s.0.ends
-session_bytes gives login images old status.Usage new s = all_some old.left (λ bytes. tt)
-session_bytes gives login images old status.UnreadableLog new s = all_some old.left (λ bytes. tt)
-session_bytes gives login images old status.OpeningFault new s = all_some old.left (λ bytes. tt)
-session_bytes gives login images old status.OutOfMemory new s = all_some old.left (λ bytes. tt)
+session_bytes : (gives : ℕ → Type 0) (login : List ℕ) (limit : ℕ) (images : Files → Type 0) (old : Sides) (s : Status) (new : Sides) → Session gives login limit images old s new → IfSome old.left (λ bytes. ByBytes bytes s)
+session_bytes gives login limit images old (status.Served end) new s = end_outcome gives login limit most_messages old s.0.exchanges s.0.middle end new s.0.named s.0.ran s.0.ends
+session_bytes gives login limit images old status.Usage new s = all_some old.left (λ bytes. tt)
+session_bytes gives login limit images old (status.UnreadableLog why) new s = all_some old.left (λ bytes. tt)
+session_bytes gives login limit images old status.OpeningFault new s = all_some old.left (λ bytes. tt)
+session_bytes gives login limit images old status.OutOfMemory new s = all_some old.left (λ bytes. tt)
 
 served_counts : (gives : ℕ → Type 0) (login : List ℕ) (limit most : ℕ) (old : Sides) (end : ConnectionEnd) (new : Sides) → Served gives login limit most old end new → ByCounts old.read_faults old.write_faults old.disk_faults (status.Served end) new.read_faults new.write_faults new.disk_faults
 served_counts gives login limit most old ended.SourceFault new s = omega (arith, s.ran.counts.read, s.ends.2)
@@ -106,25 +105,38 @@ served_counts gives login limit most old ended.Truncated new s = tt
 served_counts gives login limit most old ended.Refused new s = tt
 served_counts gives login limit most old ended.Many new s = tt
 
--- what is known of a run over every history that stands before it
-abbrev SessionOf : (gives : ℕ → Type 0) (login : List ℕ) (images : Files → Type 0) (seen : Option Files) (left : Option (List ℕ)) (f : ℕ) (got : Option (List ℕ)) (w d : ℕ) → Status → (left' : Option (List ℕ)) (f' : ℕ) (got' : Option (List ℕ)) (w' d' : ℕ) → Type 0
-SessionOf gives login images seen left f got w d s left' f' got' w' d' = (h : History) → IsHistoryOf seen h → (h' : History) × Session gives login images (sides h left f got w d) s (sides h' left' f' got' w' d')
+-- what is known of a run over the history that stands before it
+abbrev pub SessionOf : (gives : ℕ → Type 0) (login : List ℕ) (limit : ℕ) (images : Files → Type 0) (seen : Option Files) (left : Option (List ℕ)) (f : ℕ) (got : Option (List ℕ)) (w d : ℕ) → Status → (left' : Option (List ℕ)) (f' : ℕ) (got' : Option (List ℕ)) (w' d' : ℕ) → Type 0
+SessionOf gives login limit images seen left f got w d s left' f' got' w' d' = OverHistory seen (λ h. (h' : History) × Session gives login limit images (sides h left f got w d) s (sides h' left' f' got' w' d'))
 
-pub known_bytes : (gives : ℕ → Type 0) (login : List ℕ) (images : Files → Type 0) (seen : Option Files) (left : Option (List ℕ)) (f : ℕ) (got : Option (List ℕ)) (w d : ℕ) (s : Status) (left' : Option (List ℕ)) (f' : ℕ) (got' : Option (List ℕ)) (w' d' : ℕ)
-    → SessionOf gives login images seen left f got w d s left' f' got' w' d' → (IsBegun s → ForSome seen (λ files. files.head ≡ [])) → IfSome left (λ bytes. ByBytes bytes s)
-known_bytes gives login images seen left f got w d (status.Served end) left' f' got' w' d' run new = let s = run [] (fresh_history seen (new tt)) in session_bytes gives login images (sides [] left f got w d) (status.Served end) (sides s.0 left' f' got' w' d') s.1
-known_bytes gives login images seen left f got w d status.Usage left' f' got' w' d' run new = all_some left (λ bytes. tt)
-known_bytes gives login images seen left f got w d status.UnreadableLog left' f' got' w' d' run new = all_some left (λ bytes. tt)
-known_bytes gives login images seen left f got w d status.OpeningFault left' f' got' w' d' run new = all_some left (λ bytes. tt)
-known_bytes gives login images seen left f got w d status.OutOfMemory left' f' got' w' d' run new = all_some left (λ bytes. tt)
+-- the same of another name of the login and the limit
+pub same_words : (gives : ℕ → Type 0) (login login' : List ℕ) (limit limit' : ℕ) (images : Files → Type 0) (seen : Option Files) (left : Option (List ℕ)) (f : ℕ) (got : Option (List ℕ)) (w d : ℕ) (s : Status) (left' : Option (List ℕ)) (f' : ℕ) (got' : Option (List ℕ)) (w' d' : ℕ)
+    → login ≡ login' → limit ≡ limit' → SessionOf gives login limit images seen left f got w d s left' f' got' w' d' → SessionOf gives login' limit' images seen left f got w d s left' f' got' w' d'
+same_words gives login login' limit limit' images seen left f got w d s left' f' got' w' d' same equal run =
+    subst (λ (n : ℕ). SessionOf gives login' n images seen left f got w d s left' f' got' w' d') equal (subst (λ (l : List ℕ). SessionOf gives l limit images seen left f got w d s left' f' got' w' d') same run)
 
-pub known_counts : (gives : ℕ → Type 0) (login : List ℕ) (images : Files → Type 0) (seen : Option Files) (left : Option (List ℕ)) (f : ℕ) (got : Option (List ℕ)) (w d : ℕ) (s : Status) (left' : Option (List ℕ)) (f' : ℕ) (got' : Option (List ℕ)) (w' d' : ℕ)
-    → SessionOf gives login images seen left f got w d s left' f' got' w' d' → (IsBegun s → ForSome seen (λ files. files.head ≡ [])) → (s ≡ status.OpeningFault → Rose d d') → ByCounts f w d s f' w' d'
-known_counts gives login images seen left f got w d (status.Served end) left' f' got' w' d' run new fault = let s = run [] (fresh_history seen (new tt)) in served_counts gives login _ most_messages (sides [] left f got w d) end (sides s.0 left' f' got' w' d') s.1.0
-known_counts gives login images seen left f got w d status.OpeningFault left' f' got' w' d' run new fault = fault refl
-known_counts gives login images seen left f got w d status.Usage left' f' got' w' d' run new fault = tt
-known_counts gives login images seen left f got w d status.UnreadableLog left' f' got' w' d' run new fault = tt
-known_counts gives login images seen left f got w d status.OutOfMemory left' f' got' w' d' run new fault = tt
+-- a disk that was opened stands for a history
+some_history : (seen : Option Files) (P : History → Type 0) → OverHistory seen P → ForSome seen IsReadable → (h : History) × P h
+some_history None P over readable = over
+some_history (Some files) P over readable = let r = readable files refl in (r.history, over r.history r.has)
+
+pub known_bytes : (gives : ℕ → Type 0) (login : List ℕ) (limit : ℕ) (images : Files → Type 0) (seen : Option Files) (left : Option (List ℕ)) (f : ℕ) (got : Option (List ℕ)) (w d : ℕ) (s : Status) (left' : Option (List ℕ)) (f' : ℕ) (got' : Option (List ℕ)) (w' d' : ℕ)
+    → SessionOf gives login limit images seen left f got w d s left' f' got' w' d' → (IsBegun s → ForSome seen IsReadable) → IfSome left (λ bytes. ByBytes bytes s)
+known_bytes gives login limit images seen left f got w d (status.Served end) left' f' got' w' d' run begun =
+    let s = some_history seen _ run (begun tt) in session_bytes gives login limit images (sides s.0 left f got w d) (status.Served end) (sides s.1.0 left' f' got' w' d') s.1.1
+known_bytes gives login limit images seen left f got w d status.Usage left' f' got' w' d' run begun = all_some left (λ bytes. tt)
+known_bytes gives login limit images seen left f got w d (status.UnreadableLog why) left' f' got' w' d' run begun = all_some left (λ bytes. tt)
+known_bytes gives login limit images seen left f got w d status.OpeningFault left' f' got' w' d' run begun = all_some left (λ bytes. tt)
+known_bytes gives login limit images seen left f got w d status.OutOfMemory left' f' got' w' d' run begun = all_some left (λ bytes. tt)
+
+pub known_counts : (gives : ℕ → Type 0) (login : List ℕ) (limit : ℕ) (images : Files → Type 0) (seen : Option Files) (left : Option (List ℕ)) (f : ℕ) (got : Option (List ℕ)) (w d : ℕ) (s : Status) (left' : Option (List ℕ)) (f' : ℕ) (got' : Option (List ℕ)) (w' d' : ℕ)
+    → SessionOf gives login limit images seen left f got w d s left' f' got' w' d' → (IsBegun s → ForSome seen IsReadable) → (s ≡ status.OpeningFault → Rose d d') → ByCounts f w d s f' w' d'
+known_counts gives login limit images seen left f got w d (status.Served end) left' f' got' w' d' run begun fault =
+    let s = some_history seen _ run (begun tt) in served_counts gives login limit most_messages (sides s.0 left f got w d) end (sides s.1.0 left' f' got' w' d') s.1.1.0
+known_counts gives login limit images seen left f got w d status.OpeningFault left' f' got' w' d' run begun fault = fault refl
+known_counts gives login limit images seen left f got w d status.Usage left' f' got' w' d' run begun fault = tt
+known_counts gives login limit images seen left f got w d (status.UnreadableLog why) left' f' got' w' d' run begun fault = tt
+known_counts gives login limit images seen left f got w d status.OutOfMemory left' f' got' w' d' run begun fault = tt
 
 either_one : (o o' : Outcome) (more : List ℕ → Outcome → Type 0) → ((rest : List ℕ) → more rest o → more rest o' → o ≡ o') → (c : Bool) (rest : List ℕ) → MatchBool c (o ≡ Outcome.Closed) (more rest o) → MatchBool c (o' ≡ Outcome.Closed) (more rest o') → o ≡ o'
 either_one o o' more one true rest a b = a ∙ sym b

@@ -1,6 +1,6 @@
 -- Histories that grow by one command, and the size of their payloads.
-use Rattle.std.proofs.Common.{◌≡◌, ℕ, ◌+◌, ◌<◌, ◌^◌, List, [], ◌∷◌, ◌++◌, length, map, refl, ap, sym, ◌∙◌, arith, length-append}
-use Rattle.std.specs.Int.{w16, w32, w64, to_be_bytes}
+use Rattle.std.proofs.Common.{◌≡◌, ℕ, ◌+◌, ◌<◌, ◌^◌, List, [], ◌∷◌, ◌++◌, length, refl, ap, ◌∙◌, arith, length-append}
+use Rattle.std.specs.Int.{w16, w32, to_be_bytes}
 use Rattle.mt_log.specs.LogImage.{log_size}
 use Rattle.mt_log.proofs.Sizes.{log_size-push}
 use Rattle.mt_server.specs.Store.{History, IsPut, State, body_32, content_of, first_state, head_of, payload_of, payloads_of_history, replay, replay_from, step, text_16}

@@ -1,7 +1,10 @@
 mod Completeness
 mod Currents
 mod Histories
+mod Loading
+mod Openings
 mod Runs
+mod Spelled
 mod Steps
 mod Tops
 mod Answering

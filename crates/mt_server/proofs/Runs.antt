@@ -1,12 +1,10 @@
 -- How a connection goes on from one exchange to the next, and how it ends.
-use Rattle.std.proofs.Common.{◌≡◌, ℕ, ◌+◌, ◌<◌, ◌≤◌, List, [], ◌∷◌, ◌++◌, length, Option, Bool, true, false, inl, inr, refl, ap, sym, subst, ◌∙◌, arith, append_assoc, append-nil, length-append, ◌||◌}
-use Rattle.std.specs.Prelude.{IsTrue}
+use Rattle.std.proofs.Common.{◌≡◌, ℕ, ◌+◌, ◌<◌, List, [], ◌∷◌, ◌++◌, length, Option, Bool, true, false, inl, inr, refl, ap, sym, subst, ◌∙◌, arith, append_assoc, append-nil, length-append, ◌||◌}
 use Rattle.std.specs.List.{flat_map, list_any}
 use Rattle.std.proofs.lemmas.List.Concat.{flat_map-append}
 use Rattle.std.proofs.lemmas.List.Folds.{list_any-append}
 use Rattle.std.proofs.Math.Bool.{or-false}
 use Rattle.mt_base.specs.Counts.{NeverFell}
-use Rattle.mt_base.specs.Lists.{IsPrefixOf}
 use Rattle.mt_disk.specs.Files.{Files}
 use Rattle.mt_edge.specs.Stream.{LeftAfter, GotMore}
 use Rattle.mt_edge.proofs.Streams.{left_after, got_more, got_nothing, left_all}

@@ -33,7 +33,7 @@ all_have seen may_leave disk tells engine h stands current c image = from_told (
   where
     from_told : (o : Option Files) → seen disk ≡ o → HasHistory c h
     from_told None none = let telling : false ≡ true = sym (ap is_some none) ∙ (current.telling ∙ image.0) in absurd (cc)
-    from_told (Some files) some = stands_leave seen may_leave disk engine.log stands current.is_open current.version files some c image.1 ∙ ap Ok (current.log files some)
+    from_told (Some files) some = record { is = stands_leave seen may_leave disk engine.log stands current.is_open current.version files some c image.1 ∙ ap Ok (current.log files some); puts = current.puts }
 
 named_front : (written : List ℕ) (h cs : History) → IsPrefixOf (named_after written h (h ++ cs)) (h ++ cs)
 named_front [] h cs = (cs, refl)

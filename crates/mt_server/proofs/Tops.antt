@@ -1,24 +1,25 @@
 -- What the number of a status says.
-use Rattle.std.proofs.Common.{◌≡◌, ℕ, List, [], ◌∷◌, ◌++◌, length, Option, Some, None, Bool, inl, inr, ◌⊎◌, refl, ap, sym, subst, ◌∙◌, arith, append_assoc, append-nil}
+use Rattle.std.proofs.Common.{◌≡◌, ℕ, List, [], ◌∷◌, ◌++◌, Option, inl, inr, ◌⊎◌, refl, ap, sym, subst, ◌∙◌, arith, append_assoc, append-nil}
 use Rattle.std.specs.Prelude.{IfSome}
-use Rattle.std.specs.Option.{ForSome}
 use Rattle.std.specs.List.{flat_map}
 use Rattle.std.proofs.lemmas.Option.{IfSome_then}
-use Rattle.mt_base.specs.Counts.{Rose}
 use Rattle.mt_base.specs.Lists.{IsPrefixOf}
 use Rattle.mt_disk.specs.Files.{Files}
 use Rattle.mt_server.specs.EngineState.{AllHave}
-use Rattle.mt_server.specs.Guarantees.{Asked, HasFront, HasNearly, HasRun, IsBroken, IsDurable, IsToldDurably}
+use Rattle.mt_server.specs.Guarantees.{Asked, HasFront, HasRun, IsBroken, IsDurable}
 use Rattle.mt_server.specs.Outcomes.{ByEnd, Outcome, OutcomeAt}
 use Rattle.mt_server.specs.Sides.{Sides, sides}
-use Rattle.mt_server.specs.Statuses.{ByBytes, ByCounts, IsBegun, Session, code_of, most_messages}
+use Rattle.mt_server.specs.Statuses.{ByBytes, IsBegun, Session, code_of, most_messages}
+use Rattle.mt_server.specs.Opening.{IsReadable, IsRefused}
 use Rattle.mt_server.specs.Store.{History}
 use Rattle.mt_server.specs.Transcript.{AllTold, Ends, Exchange, Images, Served, commands_of, named_after}
 use Rattle.mt_server.specs.declared.connection.ConnectionEnd.{ConnectionEnd}
 use Rattle.mt_server.specs.declared.connection.ConnectionEnd.TheVariants as ended
 use Rattle.mt_server.specs.declared.status.Status.{Status}
 use Rattle.mt_server.specs.declared.status.Status.TheVariants as status
+use Rattle.mt_server.specs.declared.opening.Unreadable.{Unreadable}
 use Rattle.mt_server.proofs.Completeness.{one_outcome}
+use Rattle.mt_server.proofs.Openings.{not_both}
 
 -- what the replies have told of
 told_each : (named h : History) (xs : List Exchange) → IsPrefixOf (h ++ flat_map commands_of xs) named → AllTold named h xs
@@ -69,25 +70,25 @@ served_fronts images ended.Truncated whole named kept c image = front_of images 
 served_fronts images ended.Refused whole named kept c image = front_of images whole named kept c image
 served_fronts images ended.Many whole named kept c image = front_of images whole named kept c image
 
-pub has_run : (gives : ℕ → Type 0) (login : List ℕ) (images : Files → Type 0) (before : History) (left : Option (List ℕ)) (f : ℕ) (got : Option (List ℕ)) (w d : ℕ) (s : Status) (result : ℕ) (left' : Option (List ℕ)) (f' : ℕ) (got' : Option (List ℕ)) (w' d' : ℕ)
-    → result ≡ code_of s → (h' : History) × Session gives login images (sides before left f got w d) s (sides h' left' f' got' w' d') → HasRun gives login images before left f got w d result left' f' got' w' d'
-has_run gives login images before left f got w d (status.Served end) result left' f' got' w' d' number run = record {
+pub has_run : (gives : ℕ → Type 0) (login : List ℕ) (limit : ℕ) (images : Files → Type 0) (before : History) (left : Option (List ℕ)) (f : ℕ) (got : Option (List ℕ)) (w d : ℕ) (s : Status) (result : ℕ) (left' : Option (List ℕ)) (f' : ℕ) (got' : Option (List ℕ)) (w' d' : ℕ)
+    → result ≡ code_of s → (h' : History) × Session gives login limit images (sides before left f got w d) s (sides h' left' f' got' w' d') → HasRun gives login limit images before left f got w d result left' f' got' w' d'
+has_run gives login limit images before left f got w d (status.Served end) result left' f' got' w' d' number run = record {
   end = status.Served end;
   history = run.0;
   number = number;
   transcript = run.1;
   durable_at_exit = served_durable images end run.0 run.1.0.named run.1.1;
-  reply_implies_durable = (served_told gives login _ most_messages (sides before left f got w d) end (sides run.0 left' f' got' w' d') run.1.0, served_fronts images end run.0 run.1.0.named run.1.1);
+  reply_implies_durable = (served_told gives login limit most_messages (sides before left f got w d) end (sides run.0 left' f' got' w' d') run.1.0, served_fronts images end run.0 run.1.0.named run.1.1);
 }
-has_run gives login images before left f got w d status.Usage result left' f' got' w' d' number run = record { end = status.Usage; history = run.0; number = number; transcript = run.1; durable_at_exit = subst (λ (h : History). AllHave images h) (sym run.1.0.history) run.1.0.kept; reply_implies_durable = tt }
-has_run gives login images before left f got w d status.UnreadableLog result left' f' got' w' d' number run = record { end = status.UnreadableLog; history = run.0; number = number; transcript = run.1; durable_at_exit = subst (λ (h : History). AllHave images h) (sym run.1.0.history) run.1.0.kept; reply_implies_durable = tt }
-has_run gives login images before left f got w d status.OpeningFault result left' f' got' w' d' number run = record { end = status.OpeningFault; history = run.0; number = number; transcript = run.1; durable_at_exit = subst (λ (h : History). AllHave images h) (sym run.1.0.history) run.1.0.kept; reply_implies_durable = tt }
-has_run gives login images before left f got w d status.OutOfMemory result left' f' got' w' d' number run = record { end = status.OutOfMemory; history = run.0; number = number; transcript = run.1; durable_at_exit = subst (λ (h : History). AllHave images h) (sym run.1.0.history) run.1.0.kept; reply_implies_durable = tt }
+has_run gives login limit images before left f got w d status.Usage result left' f' got' w' d' number run = record { end = status.Usage; history = run.0; number = number; transcript = run.1; durable_at_exit = subst (λ (h : History). AllHave images h) (sym run.1.0.history) run.1.0.kept; reply_implies_durable = tt }
+has_run gives login limit images before left f got w d (status.UnreadableLog why) result left' f' got' w' d' number run = record { end = status.UnreadableLog why; history = run.0; number = number; transcript = run.1; durable_at_exit = subst (λ (h : History). AllHave images h) (sym run.1.0.history) run.1.0.kept; reply_implies_durable = tt }
+has_run gives login limit images before left f got w d status.OpeningFault result left' f' got' w' d' number run = record { end = status.OpeningFault; history = run.0; number = number; transcript = run.1; durable_at_exit = subst (λ (h : History). AllHave images h) (sym run.1.0.history) run.1.0.kept; reply_implies_durable = tt }
+has_run gives login limit images before left f got w d status.OutOfMemory result left' f' got' w' d' number run = record { end = status.OutOfMemory; history = run.0; number = number; transcript = run.1; durable_at_exit = subst (λ (h : History). AllHave images h) (sym run.1.0.history) run.1.0.kept; reply_implies_durable = tt }
 
 -- the status of a number
 pub is_usage : (s : Status) → code_of s ≡ 1 → s ≡ status.Usage
 is_usage status.Usage is = refl
-is_usage status.UnreadableLog is = absurd (omega (arith, is))
+is_usage (status.UnreadableLog why) is = absurd (omega (arith, is))
 is_usage status.OpeningFault is = absurd (omega (arith, is))
 is_usage status.OutOfMemory is = absurd (omega (arith, is))
 is_usage (status.Served ended.Ended) is = absurd (omega (arith, is))
@@ -99,8 +100,8 @@ is_usage (status.Served ended.Truncated) is = absurd (omega (arith, is))
 is_usage (status.Served ended.Refused) is = absurd (omega (arith, is))
 is_usage (status.Served ended.Many) is = absurd (omega (arith, is))
 
-pub is_unreadable : (s : Status) → code_of s ≡ 2 → s ≡ status.UnreadableLog
-is_unreadable status.UnreadableLog is = refl
+pub is_unreadable : (s : Status) → code_of s ≡ 2 → (why : Unreadable) × (s ≡ status.UnreadableLog why)
+is_unreadable (status.UnreadableLog why) is = (why, refl)
 is_unreadable status.Usage is = absurd (omega (arith, is))
 is_unreadable status.OpeningFault is = absurd (omega (arith, is))
 is_unreadable status.OutOfMemory is = absurd (omega (arith, is))
@@ -113,13 +114,13 @@ is_unreadable (status.Served ended.Truncated) is = absurd (omega (arith, is))
 is_unreadable (status.Served ended.Refused) is = absurd (omega (arith, is))
 is_unreadable (status.Served ended.Many) is = absurd (omega (arith, is))
 
--- a session was begun on a new store, or it ended before
-pub begun_or : (P : Type 0) (s : Status) → (IsBegun s → P) → P ⊎ ((code_of s ≡ 1) ⊎ (code_of s ≡ 2) ⊎ (code_of s ≡ 5) ⊎ (code_of s ≡ 8))
-begun_or P (status.Served end) new = inl (new tt)
-begun_or P status.Usage new = inr (inl refl)
-begun_or P status.UnreadableLog new = inr (inr (inl refl))
-begun_or P status.OpeningFault new = inr (inr (inr (inl refl)))
-begun_or P status.OutOfMemory new = inr (inr (inr (inr refl)))
+-- a log that is refused is not served
+pub refused_ends : (files : Files) (s : Status) → (IsBegun s → IsReadable files) → (why : Unreadable) → IsRefused files why → (code_of s ≡ 1) ⊎ (code_of s ≡ 2) ⊎ (code_of s ≡ 5) ⊎ (code_of s ≡ 8)
+refused_ends files (status.Served end) begun why refused = absurd (not_both files why refused (begun tt))
+refused_ends files status.Usage begun why refused = inl refl
+refused_ends files (status.UnreadableLog said) begun why refused = inr (inl refl)
+refused_ends files status.OpeningFault begun why refused = inr (inr (inl refl))
+refused_ends files status.OutOfMemory begun why refused = inr (inr (inr refl))
 
 -- what the bytes lead to is what the status asks for
 end_asked : (bytes : List ℕ) (end : ConnectionEnd) (o : Outcome) → ByEnd most_messages bytes end → OutcomeAt most_messages bytes o → IsBroken (code_of (status.Served end)) ⊎ Asked o (code_of (status.Served end))
@@ -135,7 +136,7 @@ end_asked bytes ended.Memory o by at = inl (inr (inr (inr (inr (inr refl)))))
 status_asked : (bytes : List ℕ) (s : Status) (o : Outcome) → ByBytes bytes s → OutcomeAt most_messages bytes o → IsBroken (code_of s) ⊎ Asked o (code_of s)
 status_asked bytes (status.Served end) o by at = end_asked bytes end o by at
 status_asked bytes status.Usage o by at = inl (inl refl)
-status_asked bytes status.UnreadableLog o by at = inl (inr (inl refl))
+status_asked bytes (status.UnreadableLog why) o by at = inl (inr (inl refl))
 status_asked bytes status.OpeningFault o by at = inl (inr (inr (inr (inr (inl refl)))))
 status_asked bytes status.OutOfMemory o by at = inl (inr (inr (inr (inr (inr refl)))))
 

@@ -5,7 +5,7 @@ use Rattle.mt_disk.specs.Files.{Files}
 use Rattle.mt_log.specs.LogImage.{IsBeforeOrAfter, log_size, payloads, payloads_of}
 use Rattle.mt_log.specs.LogState.{LogState, size_with, told, with_payload, with_record}
 use Rattle.mt_server.specs.Answer.{fits}
-use Rattle.mt_server.specs.Store.{History, State, most_commands, replay, payloads_of_history}
+use Rattle.mt_server.specs.Store.{ArePuts, History, State, most_commands, replay, payloads_of_history}
 use Rattle.mt_server.specs.declared.accepted.Accepted.{Accepted}
 use Rattle.mt_server.specs.declared.accepted.Accepted.TheVariants as accepted
 use Rattle.mt_server.specs.declared.put.Put.{Put}
@@ -19,19 +19,21 @@ abbrev pub has_room : EngineState → ℕ → Bool
 has_room engine payload = nat_lt engine.state.count most_commands && nat_le (size_with engine.log payload) engine.log.limit
 
 -- the files' log has this history
-abbrev pub HasHistory : Files → History → Type 0
-HasHistory files h = payloads files ≡ Ok (payloads_of_history h)
+pub record HasHistory (files : Files) (h : History) : Type 0 where
+  pub is : payloads files ≡ Ok (payloads_of_history h)
+  pub puts : ArePuts h
 
--- a disk stands for this history; one that tells nothing stands for the empty one, since only a new store is opened
-abbrev pub IsHistoryOf : Option Files → History → Type 0
-IsHistoryOf None h = h ≡ []
-IsHistoryOf (Some files) h = HasHistory files h
+-- a fact of the history that a disk stands for: the one of its log, and some history where the disk doesn't tell what it holds
+abbrev pub OverHistory : Option Files → (History → Type 0) → Type 0
+OverHistory None P = (h : History) × P h
+OverHistory (Some files) P = (h : History) → HasHistory files h → P h
 
 -- the engine is open, its state is that of the history, and so is the disk's log where the disk tells it; whether it does is the truth value
 pub record IsCurrent (tells : Bool) (seen : Option Files) (engine : EngineState) (h : History) : Type 0 where
   pub telling : is_some seen ≡ tells
   pub is_open : engine.log.closed ≡ false
   pub version : engine.log.is_old ≡ false
+  pub puts : ArePuts h
   pub state : engine.state ≡ replay h
   pub size : engine.log.gate + 1 ≡ log_size (payloads_of_history h)
   pub log : (files : Files) → seen ≡ Some files → payloads_of files ≡ payloads_of_history h

@@ -1,5 +1,5 @@
 -- What the top call promises of a session.
-use Rattle.std.specs.Prelude.{◌≡◌, ◌⊎◌, ◌+◌, ◌≤◌, ℕ, List, ◌++◌, length, Option}
+use Rattle.std.specs.Prelude.{◌≡◌, ◌⊎◌, ◌+◌, ◌≤◌, ℕ, List, length, Option}
 use Rattle.mt_base.specs.Lists.{IsPrefixOf}
 use Rattle.mt_disk.specs.Files.{Files}
 use Rattle.mt_server.specs.EngineState.{AllHave, HasHistory}
@@ -31,21 +31,21 @@ IsDurable (status.Served ended.DiskFault) images whole = (c : Files) → images 
 IsDurable _ images whole = AllHave images whole
 
 -- what a reply tells of, once a byte of it was written, is in each image: `named` is the history of which the replies have told
-abbrev pub IsToldDurably : (gives : ℕ → Type 0) (login : List ℕ) (images : Files → Type 0) (old : Sides) (s : Status) (new : Sides) → Session gives login images old s new → Type 0
-IsToldDurably gives login images old (status.Served end) new run = AllTold run.0.named old.history run.0.exchanges × ((c : Files) → images c → HasFront run.0.named c)
-IsToldDurably gives login images old status.Usage new run = Unit {0}
-IsToldDurably gives login images old status.UnreadableLog new run = Unit {0}
-IsToldDurably gives login images old status.OpeningFault new run = Unit {0}
-IsToldDurably gives login images old status.OutOfMemory new run = Unit {0}
+abbrev pub IsToldDurably : (gives : ℕ → Type 0) (login : List ℕ) (limit : ℕ) (images : Files → Type 0) (old : Sides) (s : Status) (new : Sides) → Session gives login limit images old s new → Type 0
+IsToldDurably gives login limit images old (status.Served end) new run = AllTold run.0.named old.history run.0.exchanges × ((c : Files) → images c → HasFront run.0.named c)
+IsToldDurably gives login limit images old status.Usage new run = Unit {0}
+IsToldDurably gives login limit images old (status.UnreadableLog why) new run = Unit {0}
+IsToldDurably gives login limit images old status.OpeningFault new run = Unit {0}
+IsToldDurably gives login limit images old status.OutOfMemory new run = Unit {0}
 
 -- One run of the program over a history: what was left of the source, what the sink got and the counts, before and after.
-pub record HasRun (gives : ℕ → Type 0) (login : List ℕ) (images : Files → Type 0) (before : History) (left : Option (List ℕ)) (f : ℕ) (got : Option (List ℕ)) (w d : ℕ) (result : ℕ) (left' : Option (List ℕ)) (f' : ℕ) (got' : Option (List ℕ)) (w' d' : ℕ) : Type 0 where
+pub record HasRun (gives : ℕ → Type 0) (login : List ℕ) (limit : ℕ) (images : Files → Type 0) (before : History) (left : Option (List ℕ)) (f : ℕ) (got : Option (List ℕ)) (w d : ℕ) (result : ℕ) (left' : Option (List ℕ)) (f' : ℕ) (got' : Option (List ℕ)) (w' d' : ℕ) : Type 0 where
   pub end : Status
   pub history : History
   pub number : result ≡ code_of end
-  pub transcript : Session gives login images (sides before left f got w d) end (sides history left' f' got' w' d')
+  pub transcript : Session gives login limit images (sides before left f got w d) end (sides history left' f' got' w' d')
   pub durable_at_exit : IsDurable end images history
-  pub reply_implies_durable : IsToldDurably gives login images (sides before left f got w d) end (sides history left' f' got' w' d') transcript
+  pub reply_implies_durable : IsToldDurably gives login limit images (sides before left f got w d) end (sides history left' f' got' w' d') transcript
 
 -- a status that the bytes of the source do not decide: the words, the log, a counted fault or want of memory did
 abbrev pub IsBroken : ℕ → Type 0

@@ -1,6 +1,7 @@
 pub mod Answer
 pub mod Answered
 pub mod EngineState
+pub mod Opening
 pub mod Outcomes
 pub mod ReplyText
 pub mod Responded

@@ -1,5 +1,5 @@
 -- What the bytes of a source alone say of how a connection ends, where nothing fails.
-use Rattle.std.specs.Prelude.{◌≡◌, ◌⊎◌, ℕ, zero, suc, List}
+use Rattle.std.specs.Prelude.{◌≡◌, ℕ, zero, suc, List}
 use Rattle.std.specs.Bool.{MatchBool}
 use Rattle.mt_server.specs.Answer.{closes}
 use Rattle.mt_http.specs.Framing.{Place, PlaceAt}

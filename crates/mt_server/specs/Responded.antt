@@ -1,5 +1,5 @@
 -- What was written of the reply to one more message.
-use Rattle.std.specs.Prelude.{◌≡◌, ℕ, List, [], ◌++◌, Option, Bool}
+use Rattle.std.specs.Prelude.{◌≡◌, ℕ, List, [], ◌++◌, Option}
 use Rattle.mt_base.specs.Counts.{Rose, NeverFell}
 use Rattle.mt_disk.specs.Files.{Files}
 use Rattle.mt_server.specs.Answer.{answer_of}

@@ -1,39 +1,34 @@
 -- How a session ended, and what each status says.
-use Rattle.std.specs.Prelude.{◌≡◌, ◌⊎◌, ℕ, ◌++◌, Bool, true, List, [], IfSome, Option, Some, None, codes}
+use Rattle.std.specs.Prelude.{◌≡◌, ◌⊎◌, ℕ, List, [], Option, Some, None, codes}
 use Rattle.mt_base.specs.Counts.{Rose, NeverFell}
 use Rattle.mt_base.specs.Lists.{IsPrefixOf}
 use Rattle.mt_disk.specs.Files.{Files}
 use Rattle.mt_edge.specs.Stream.{GotMore}
 use Rattle.mt_server.specs.EngineState.{AllHave}
-use Rattle.mt_server.specs.Outcomes.{ByEnd, Outcome, OutcomeAt}
+use Rattle.mt_server.specs.Opening.{line_of}
+use Rattle.mt_server.specs.Outcomes.{ByEnd}
 use Rattle.mt_server.specs.Sides.{Sides}
-use Rattle.mt_server.specs.Store.{History}
-use Rattle.mt_server.specs.Transcript.{Images, IsKept, Served}
-use Rattle.mt_server.specs.declared.connection.ConnectionEnd.{ConnectionEnd}
+use Rattle.mt_server.specs.Transcript.{Images, Served}
+use Rattle.mt_server.specs.Words.{default_limit}
 use Rattle.mt_server.specs.declared.connection.ConnectionEnd.TheVariants as ended
 use Rattle.mt_server.specs.declared.settings.Settings.{Settings}
 use Rattle.mt_server.specs.declared.status.Status.{Status}
+use Rattle.mt_server.specs.declared.opening.OpenEnd.{OpenEnd}
+use Rattle.mt_server.specs.declared.opening.OpenEnd.TheVariants as opening
 use Rattle.mt_server.specs.declared.status.Status.TheVariants as status
 
 -- as many messages as one connection has
 abbrev pub most_messages : ℕ
 most_messages = 16777216
 
--- the bytes that a log may have
-abbrev pub log_limit : ℕ
-log_limit = 1073741824
-
--- the lines of a session that is not begun
+-- the line of words that are not of the grammar
 abbrev pub usage_line : List ℕ
 usage_line = codes "usage: mantad COMMAND [OPTIONS]\n"
-
-abbrev pub not_built_line : List ℕ
-not_built_line = codes "mantad: existing logs are not built yet\n"
 
 -- the number of a status
 abbrev pub code_of : Status → ℕ
 code_of status.Usage = 1
-code_of status.UnreadableLog = 2
+code_of (status.UnreadableLog why) = 2
 code_of status.OpeningFault = 5
 code_of status.OutOfMemory = 8
 code_of (status.Served ended.Ended) = 0
@@ -69,13 +64,26 @@ abbrev pub login_of : Option Settings → List ℕ
 login_of None = []
 login_of (Some settings) = settings.login
 
--- a session of a login over a history: it was not begun, or one connection was served
-abbrev pub Session : (gives : ℕ → Type 0) (login : List ℕ) (images : Files → Type 0) (old : Sides) → Status → Sides → Type 0
-Session gives login images old status.Usage new = Unserved images old new × SaysLine usage_line old.got new.got old.write_faults new.write_faults
-Session gives login images old status.UnreadableLog new = Unserved images old new × SaysLine not_built_line old.got new.got old.write_faults new.write_faults
-Session gives login images old status.OpeningFault new = Unserved images old new × (new.got ≡ old.got) × Rose old.disk_faults new.disk_faults
-Session gives login images old status.OutOfMemory new = Unserved images old new × (new.got ≡ old.got)
-Session gives login images old (status.Served end) new = (s : Served gives login log_limit most_messages old end new) × Images end images new.history s.named
+-- the bytes that the words let the log have
+abbrev pub limit_of : Option Settings → ℕ
+limit_of None = default_limit
+limit_of (Some settings) = settings.log_limit
+
+-- a session of a login, under a limit of the log, over a history: it was not begun, or one connection was served
+abbrev pub Session : (gives : ℕ → Type 0) (login : List ℕ) (limit : ℕ) (images : Files → Type 0) (old : Sides) → Status → Sides → Type 0
+Session gives login limit images old status.Usage new = Unserved images old new × SaysLine usage_line old.got new.got old.write_faults new.write_faults
+Session gives login limit images old (status.UnreadableLog why) new = Unserved images old new × SaysLine (line_of why) old.got new.got old.write_faults new.write_faults
+Session gives login limit images old status.OpeningFault new = Unserved images old new × (new.got ≡ old.got) × Rose old.disk_faults new.disk_faults
+Session gives login limit images old status.OutOfMemory new = Unserved images old new × (new.got ≡ old.got)
+Session gives login limit images old (status.Served end) new = (s : Served gives login limit most_messages old end new) × Images end images new.history s.named
+
+-- the status of a store that was not opened: its line was said, or memory was wanted for it
+abbrev pub NotOpened : OpenEnd → (got : Option (List ℕ)) (w : ℕ) → Status → (got' : Option (List ℕ)) (w' : ℕ) → Type 0
+NotOpened (opening.Unreadable why) got w (status.UnreadableLog said) got' w' = (said ≡ why) × SaysLine (line_of why) got got' w w'
+NotOpened (opening.Unreadable why) got w status.OutOfMemory got' w' = (got' ≡ got) × (w' ≡ w)
+NotOpened opening.Disk got w status.OpeningFault got' w' = (got' ≡ got) × (w' ≡ w)
+NotOpened opening.Memory got w status.OutOfMemory got' w' = (got' ≡ got) × (w' ≡ w)
+NotOpened end got w s got' w' = ⊥
 
 -- the bytes say this status, where it is one that the bytes decide
 abbrev pub ByBytes : List ℕ → Status → Type 0

@@ -1,5 +1,5 @@
 -- The account of this stage: a map from names to objects, and the puts that made it.
-use Rattle.std.specs.Prelude.{ℕ, ◌+◌, ◌*◌, ◌≤◌, List, [], ◌∷◌, ◌++◌, length, map, Option}
+use Rattle.std.specs.Prelude.{◌≢◌, ℕ, ◌+◌, ◌*◌, ◌≤◌, List, [], ◌∷◌, ◌++◌, length, map, Option}
 use Rattle.std.specs.Ordering.{nat_cmp}
 use Rattle.std.specs.Cmp.Lexicographic.{slice_cmp}
 use Rattle.std.specs.BTreeMap.{insert_entry, is_at}
@@ -47,6 +47,11 @@ pub record IsPut (put : Put) : Type 0 where
   pub body : length put.body ≤ 1073741824
   pub moment : put.moment ≤ 253402300799
 
+-- each command is within the limits
+abbrev pub ArePuts : History → Type 0
+ArePuts [] = Unit {0}
+ArePuts (put ∷ h) = IsPut put × ArePuts h
+
 -- a text with its length in two bytes
 abbrev pub text_16 : List ℕ → List ℕ
 text_16 text = big_endian_16 (length text) ++ text
@@ -66,6 +71,10 @@ content_of put = text_16 put.content_type ++ body_32 put.body
 -- the bytes of a put in the log
 unfoldable pub payload_of : Put → List ℕ
 payload_of put = head_of put ++ content_of put
+
+-- no put is spelled so
+abbrev pub IsNoPut : List ℕ → Type 0
+IsNoPut payload = (put : Put) → IsPut put → payload_of put ≢ payload
 
 -- the payloads of a history
 abbrev pub payloads_of_history : History → List (List ℕ)

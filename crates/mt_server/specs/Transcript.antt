@@ -1,5 +1,5 @@
 -- What one connection did: exchanges of a message and its reply, and then an end.
-use Rattle.std.specs.Prelude.{◌≡◌, ℕ, ◌+◌, ◌<◌, ◌≤◌, ◌⊎◌, List, [], ◌∷◌, ◌++◌, length, Option, IfSome, Bool, true, false, IsTrue, Ok}
+use Rattle.std.specs.Prelude.{◌≡◌, ℕ, ◌+◌, ◌<◌, ◌≤◌, ◌⊎◌, List, [], ◌∷◌, ◌++◌, length, Option, IfSome, Bool, true, false, IsTrue}
 use Rattle.std.specs.List.{flat_map, list_any}
 use Rattle.mt_base.specs.Counts.{Rose, NeverFell}
 use Rattle.mt_base.specs.Lists.{IsPrefixOf}

@@ -1,16 +1,13 @@
 //! The engine: the objects of an account, and the log that they are made from.
-ghost use Rattle.std.specs.Prelude.{◌≡◌, ◌≢◌, ◌+◌, ◌≤◌, ◌<◌, ◌^◌, ℕ, [], Err, Option, option_map, is_some, length, IsOk, IfOk, OnOk, OnErr, IsErrOf, false, IsTrue, ◌↔◌, Bool};
+ghost use Rattle.std.specs.Prelude.{◌≡◌, ◌≢◌, ◌+◌, ◌<◌, ◌^◌, option_map, length, IsOk, OnOk, OnErr, false, Bool};
 ghost use Rattle.std.specs.Option.{ForSome};
-ghost use Rattle.mt_base.specs.Counts.{Rose, NeverFell};
-ghost use Rattle.mt_disk.specs.CrashModel.{IsAtRest, LeavesOnly, Untouched};
-ghost use Rattle.mt_log.specs.LogImage.{Fit, SameLog, payloads};
-ghost use Rattle.mt_log.specs.LogState.{HasRoom, Stands, told};
-ghost use Rattle.mt_server.specs.EngineState.{IsCurrent, IsHistoryOf, Accepts, Writes, has_room, told_images};
-ghost use Rattle.std.specs.Prelude.{◌⊎◌};
+ghost use Rattle.mt_log.specs.LogImage.{payloads};
+ghost use Rattle.mt_log.specs.LogState.{HasRoom, Stands};
+ghost use Rattle.mt_server.specs.EngineState.{IsCurrent, Accepts, Writes, has_room, told_images};
 ghost use Rattle.std.specs.Ordering.{nat_cmp};
 ghost use Rattle.std.specs.Cmp.Lexicographic.{slice_cmp};
 ghost use Rattle.std.specs.BTreeMap.{insert_entry};
-ghost use Rattle.mt_server.specs.Store.{History, IsPut, made_by, most_commands, object_at, payload_of, step};
+ghost use Rattle.mt_server.specs.Store.{History, IsPut, most_commands, object_at, step};
 
 use crate::accepted::Accepted;
 use crate::object::Object;
@@ -18,42 +15,14 @@ use crate::put::{Put, encode};
 use crate::types::Engine;
 use mt_base::Bytes;
 use mt_disk::Disk;
-use mt_log::{AppendError, CreateError, Log};
+use mt_log::AppendError;
 use std::alloc::{AllocError, Global};
 use std::collections::BTreeMap;
 
 /// The largest number of commands of an account.
-const MOST_COMMANDS: u64 = (1 << 50) - 1;
+pub(crate) const MOST_COMMANDS: u64 = (1 << 50) - 1;
 
 impl Engine {
-    /// Makes the log of a new store, which may get `limit` bytes long.
-    pub(crate) fn open<D: Disk>(
-        alloc: Global,
-        disk: &mut D,
-        limit: u64,
-    ) -> Result<Engine, CreateError>
-        requires rest { IsAtRest D.seen D.may_leave disk.old }
-        requires fit { ForSome (D.seen disk.old) Fit }
-        ensures current { (h : History) → IsHistoryOf (D.seen disk.old) h → IfOk result (λ engine. IsCurrent (is_some (D.seen disk.old)) (D.seen disk.new) engine h) }
-        ensures limit { IfOk result (λ engine. engine.log.limit ≡ limit) }
-        ensures live { IfOk result (λ engine. engine.log.closed ≡ false) }
-        ensures stands { IfOk result (λ engine. Stands D.seen D.may_leave disk.new engine.log) }
-        ensures same { result ≢ Err CreateError.Disk → told (D.seen disk.new) ≡ told (D.seen disk.old) }
-        ensures untouched { IsErrOf result CreateError.Exists → Untouched D.seen D.may_leave D.moment D.left_since disk.old disk.new }
-        ensures not_built { IsErrOf result CreateError.Exists → ForSome (D.seen disk.old) (λ files. files.head ≢ []) }
-        ensures made { OnOk result (ForSome (D.seen disk.old) (λ files. files.head ≡ [])) }
-        ensures any_moment { ForSome (D.seen disk.old) (λ files. LeavesOnly D.moment D.left_since disk.old disk.new (SameLog files)) }
-        ensures disk { IsErrOf result CreateError.Disk → Rose (D.faults disk.old) (D.faults disk.new) }
-        ensures faults { NeverFell (D.faults disk.old) (D.faults disk.new) }
-    {
-        let log = Log::create(disk, limit)?;
-        Ok(Engine {
-            log,
-            rows: BTreeMap::new(alloc),
-            count: 0,
-        })
-    }
-
     /// The number of commands so far.
     pub(crate) fn position(&self) -> u64
         ensures result_is { result ≡ self.now.state.count }
@@ -76,8 +45,8 @@ impl Engine {
         self.count < MOST_COMMANDS && self.log.has_room(payload)
     }
 
-    // The state after a put. Where memory is wanted it stays.
-    fn change(&mut self, put: Put) -> Result<(), AllocError>
+    /// The state after a put. Where memory is wanted it stays.
+    pub(crate) fn change(&mut self, put: Put) -> Result<(), AllocError>
         requires room { self.old.state.count < most_commands }
         requires put { IsPut put }
         ensures changed { OnOk result (self.new ≡ record self.old { state = step self.old.state put }) }

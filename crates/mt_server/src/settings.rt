@@ -2,7 +2,7 @@
 ghost use Rattle.std.specs.Prelude.{◌≡◌, ◌≤◌, ◌↔◌, List, ℕ, Some, None, [], ◌∷◌, IfOk, IsErrOf, IfSome, map, string_bytes, option_map};
 ghost use Rattle.std.specs.List.{list_all};
 ghost use Rattle.mt_server.specs.declared.settings.SettingsError.TheVariants.{Memory};
-ghost use Rattle.mt_server.specs.Words.{are_options, is_login, is_login_byte, is_option, moment_by, session_of, settings_by, settings_of, small_moment, values_of};
+ghost use Rattle.mt_server.specs.Words.{are_options, is_login, is_login_byte, is_option, limit_by, moment_by, session_of, settings_by, settings_of, small_moment, values_of};
 
 use mt_base::Text;
 use mt_bytes::read_decimal;
@@ -18,7 +18,18 @@ pub struct Settings {
     pub store: Text,
     /// The one moment of the clock, in seconds since 1970, at most 253,402,300,799; the system's time without it.
     pub at: Option<u64>,
+    /// The bytes that the log may have, 9 to 68,719,476,736; 1,073,741,824 unless given.
+    pub log_limit: u64,
 }
+
+/// The bytes that a log may have, unless the words say so.
+const DEFAULT_LIMIT: u64 = 1 << 30;
+
+/// The bytes of a log without a command: a log has no lower limit.
+const LEAST_LIMIT: u64 = 9;
+
+/// The largest limit of a log, in bytes.
+const GREATEST_LIMIT: u64 = 1 << 36;
 
 /// Why the words give no settings.
 #[derive(Clone, Copy, Debug, PartialEq, Eq)]
@@ -32,7 +43,7 @@ pub enum SettingsError {
 fn is_option_name(name: &str) -> bool
     ensures { result ≡ is_option name.now }
 {
-    name == "--login" || name == "--store" || name == "--at"
+    name == "--login" || name == "--store" || name == "--at" || name == "--log-limit"
 }
 
 // Whether the words are options, each with its value.
@@ -86,6 +97,26 @@ fn moment(values: &[&str]) -> Option<Option<u64>>
     }
 }
 
+// The limit of the log that an option gives, which stands at most once.
+fn limit_by(values: &[&str]) -> Option<u64>
+    ensures { result ≡ limit_by (map (λ v. v.now) values.now) }
+{
+    match values {
+        [] => Some(DEFAULT_LIMIT),
+        [value] => match read_decimal(value.as_bytes()) {
+            Some(limit) => {
+                if LEAST_LIMIT <= limit && limit <= GREATEST_LIMIT {
+                    Some(limit)
+                } else {
+                    None
+                }
+            }
+            None => None,
+        },
+        _ => None,
+    }
+}
+
 fn may_be_in_login(byte: u8) -> bool
     ensures { result ≡ is_login_byte byte }
 {
@@ -111,9 +142,10 @@ fn settings_from(
     logins: &[&str],
     stores: &[&str],
     at: Option<Option<u64>>,
+    log_limit: Option<u64>,
 ) -> Result<Settings, SettingsError>
-    ensures ok { IfOk result (λ s. settings_by (map (λ v. v.now) logins.now) (map (λ v. v.now) stores.now) at ≡ Some s) }
-    ensures usage { IsErrOf result SettingsError.Usage → settings_by (map (λ v. v.now) logins.now) (map (λ v. v.now) stores.now) at ≡ None }
+    ensures ok { IfOk result (λ s. settings_by (map (λ v. v.now) logins.now) (map (λ v. v.now) stores.now) at log_limit ≡ Some s) }
+    ensures usage { IsErrOf result SettingsError.Usage → settings_by (map (λ v. v.now) logins.now) (map (λ v. v.now) stores.now) at log_limit ≡ None }
 {
     let [login] = logins else {
         return Err(SettingsError::Usage);
@@ -127,10 +159,14 @@ fn settings_from(
     let Some(at) = at else {
         return Err(SettingsError::Usage);
     };
+    let Some(log_limit) = log_limit else {
+        return Err(SettingsError::Usage);
+    };
     Ok(Settings {
         login: Text::from_str(alloc, login)?,
         store: Text::from_str(alloc, store)?,
         at,
+        log_limit,
     })
 }
 
@@ -160,6 +196,7 @@ impl Settings {
         let at = values(alloc, options, "--at")?;
         let logins = values(alloc, options, "--login")?;
         let stores = values(alloc, options, "--store")?;
-        settings_from(alloc, &logins, &stores, moment(&at))
+        let limits = values(alloc, options, "--log-limit")?;
+        settings_from(alloc, &logins, &stores, moment(&at), limit_by(&limits))
     }
 }

@@ -3,14 +3,15 @@ ghost use Rattle.std.specs.Prelude.{◌≡◌};
 ghost use Rattle.mt_server.specs.Statuses.{code_of};
 
 use crate::connection::ConnectionEnd;
+use crate::opening::Unreadable;
 
 /// How a session ended.
 #[derive(Clone, Copy, Debug, PartialEq, Eq)]
 pub enum Status {
     /// 1: the words are not of the grammar.
     Usage,
-    /// 2: the log cannot be read.
-    UnreadableLog,
+    /// 2: the log cannot be read, and this is why.
+    UnreadableLog(Unreadable),
     /// 5: the disk failed in opening, and counted it.
     OpeningFault,
     /// 8: memory was wanted before a message was read.
@@ -26,7 +27,7 @@ impl Status {
     {
         match self {
             Status::Usage => 1,
-            Status::UnreadableLog => 2,
+            Status::UnreadableLog(_) => 2,
             Status::OpeningFault => 5,
             Status::OutOfMemory => 8,
             Status::Served(ConnectionEnd::Ended) => 0,

@@ -1,15 +1,16 @@
 //! The top call of the program.
-ghost use Rattle.std.specs.Prelude.{◌≡◌, ◌≢◌, ◌⊎◌, [], Some, None, ℕ, is_some, IfSome, map, string_bytes};
+ghost use Rattle.std.specs.Prelude.{◌≡◌, ◌⊎◌, None, is_some, IfSome, map, string_bytes};
 ghost use Rattle.std.specs.Option.{ForSome};
 ghost use Rattle.mt_base.specs.Counts.{Rose};
-ghost use Rattle.mt_disk.specs.CrashModel.{IsAtRest, Untouched};
+ghost use Rattle.mt_disk.specs.CrashModel.{IsAtRest};
 ghost use Rattle.mt_log.specs.LogImage.{Fit};
-ghost use Rattle.mt_server.specs.EngineState.{IsHistoryOf, told_images};
+ghost use Rattle.mt_server.specs.EngineState.{OverHistory, told_images};
 ghost use Rattle.mt_server.specs.Guarantees.{Asked, HasRun, IsBroken};
+ghost use Rattle.mt_server.specs.Opening.{IsRefused, KeepsLogs, line_of};
 ghost use Rattle.mt_server.specs.Outcomes.{Outcome, OutcomeAt};
-ghost use Rattle.mt_server.specs.Statuses.{SaysLine, login_of, most_messages, not_built_line, usage_line};
-ghost use Rattle.mt_server.specs.Store.{History};
+ghost use Rattle.mt_server.specs.Statuses.{SaysLine, limit_of, login_of, most_messages, usage_line};
 ghost use Rattle.mt_server.specs.Words.{settings_of};
+ghost use Rattle.mt_server.specs.declared.opening.Unreadable.{Unreadable};
 
 use crate::session::conclude;
 use mt_disk::Disk;
@@ -44,24 +45,23 @@ pub fn mantad<S: Source, K: Sink, D: Disk, P: Spawner, C: Clock, W: Door>(
     requires rest { IsAtRest D.seen D.may_leave disk.old }
     requires fit { ForSome (D.seen disk.old) Fit }
 
-    // For every history that the disk stands for at entry: the transcript, durable at exit, a reply implies durable.
-    ensures run { (h : History) → IsHistoryOf (D.seen disk.old) h →
-        HasRun (C.gives (C.rule clock.old)) (login_of (settings_of (map string_bytes words.now))) (told_images (is_some (D.seen disk.old)) (D.may_leave disk.new)) h
+    // Over the history that the disk stands for at entry: the transcript, durable at exit, a reply implies durable.
+    ensures run { OverHistory (D.seen disk.old) (λ h.
+        HasRun (C.gives (C.rule clock.old)) (login_of (settings_of (map string_bytes words.now))) (limit_of (settings_of (map string_bytes words.now))) (told_images (is_some (D.seen disk.old)) (D.may_leave disk.new)) h
         (S.left source.old) (S.read_faults source.old) (K.got sink.old) (K.write_faults sink.old) (D.faults disk.old) result
-        (S.left source.new) (S.read_faults source.new) (K.got sink.new) (K.write_faults sink.new) (D.faults disk.new) }
+        (S.left source.new) (S.read_faults source.new) (K.got sink.new) (K.write_faults sink.new) (D.faults disk.new)) }
 
     // An early exit touches nothing but for its line.
     ensures early_usage { result ≡ 1 → (source.new ≡ source.old) × (disk.new ≡ disk.old)
         × SaysLine usage_line (K.got sink.old) (K.got sink.new) (K.write_faults sink.old) (K.write_faults sink.new) }
-    ensures early_unreadable { result ≡ 2 → (source.new ≡ source.old) × Untouched D.seen D.may_leave D.moment D.left_since disk.old disk.new
-        × SaysLine not_built_line (K.got sink.old) (K.got sink.new) (K.write_faults sink.old) (K.write_faults sink.new) }
+    ensures early_unreadable { result ≡ 2 → (source.new ≡ source.old) × ((why : Unreadable) × SaysLine (line_of why) (K.got sink.old) (K.got sink.new) (K.write_faults sink.old) (K.write_faults sink.new)
+        × ForSome (D.seen disk.old) (λ files. IsRefused files why × KeepsLogs D.seen D.may_leave disk.new files)) }
     ensures outside { (spawner.new ≡ spawner.old) × (door.new ≡ door.old) }
 
     // 1 exactly by the words, 2 exactly by the disk; want of memory is the one free answer.
     ensures one { result ≡ 1 → settings_of (map string_bytes words.now) ≡ None }
     ensures one_exactly { settings_of (map string_bytes words.now) ≡ None → (result ≡ 1) ⊎ (result ≡ 8) }
-    ensures two { result ≡ 2 → ForSome (D.seen disk.old) (λ files. files.head ≢ []) }
-    ensures two_exactly { ForSome (D.seen disk.old) (λ files. files.head ≡ []) ⊎ ((result ≡ 1) ⊎ (result ≡ 2) ⊎ (result ≡ 5) ⊎ (result ≡ 8)) }
+    ensures two_exactly { ForSome (D.seen disk.old) (λ files. (why : Unreadable) → IsRefused files why → (result ≡ 1) ⊎ (result ≡ 2) ⊎ (result ≡ 5) ⊎ (result ≡ 8)) }
 
     // 3, 4 and 5 only where a count rose.
     ensures three { result ≡ 3 → Rose (S.read_faults source.old) (S.read_faults source.new) }

@@ -1,7 +1,7 @@
 -- The answer, by what the message asks for.
-use Rattle.std.proofs.Common.{◌≡◌, ℕ, Bool, false, length, refl, sym, subst, ◌∙◌}
+use Rattle.std.proofs.Common.{◌≡◌, ℕ, Bool, length, refl, sym, subst, ◌∙◌}
 use Rattle.std.specs.Prelude.{IfOk}
-use Rattle.mt_server.specs.Answer.{closes, found, only}
+use Rattle.mt_server.specs.Answer.{closes, found}
 use Rattle.mt_server.specs.EngineState.{told_images}
 use Rattle.mt_server.specs.ReplyText.{refused_reply, reply_text}
 use Rattle.mt_server.specs.Store.{object_at, replay}

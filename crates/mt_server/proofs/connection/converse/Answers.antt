@@ -1,8 +1,6 @@
 -- The step, by what became of the reply.
-use Rattle.std.proofs.Common.{subst, sym}
 use Rattle.mt_server.proofs.Steps.{all_have, cut_by_disk, cut_reply, memory_in_answer, went}
 use Rattle.mt_server.specs.EngineState.{IsCurrent, told_images}
-use Rattle.mt_server.specs.Store.{History}
 use Rattle.mt_server.proofs.connection.converse.Goals as goal
 
 pub returns-in-Written-clause-step : goal.returns-in-Written-clause-step

@@ -1,6 +1,5 @@
 -- The answer at the clock's moment, and what the sink took of its reply.
-use Rattle.std.proofs.Common.{[], refl, ap, sym, ◌∙◌, append-nil, arith}
-use Rattle.mt_server.specs.ReplyText.{reply_text}
+use Rattle.std.proofs.Common.{[], refl, ◌∙◌, append-nil, arith}
 use Rattle.mt_edge.proofs.Streams.{got_nothing}
 use Rattle.mt_server.proofs.respond.respond.Goals as goal
 

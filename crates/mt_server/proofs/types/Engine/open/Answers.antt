@@ -1,21 +1,33 @@
--- A new store has no command.
-use Rattle.std.proofs.Common.{◌≡◌, ℕ, List, [], sym, ap, ◌∙◌, arith}
-use Rattle.mt_log.specs.LogImage.{log_size}
-use Rattle.mt_server.specs.Store.{History, State, first_state, payloads_of_history, replay}
-use Rattle.mt_server.specs.Stored.{Stored}
-use Rattle.mt_server.proofs.Currents.{first_history, first_log, same_telling}
+-- The log was opened, and then read.
+use Rattle.std.proofs.Common.{◌≡◌, ap, sym, ◌∙◌, Err}
+use Rattle.mt_server.specs.declared.opening.OpenEnd.TheVariants as OpenEnd
+use Rattle.mt_server.proofs.Openings.{opened_over, opened_readable, readable_after, refusal_is, refusal_not_disk, refused_before, refused_log}
 use Rattle.mt_server.proofs.types.Engine.open.Goals as goal
 
-pub returns-clause-current : goal.returns-clause-current
-returns-clause-current g c h is =
-    let none : h ≡ [] = first_history _ h is c.in_ok-log.ensures.made in
-    let empty : State = record { count = 0; rows = c.new.result.entries } in
-    let rows : empty ≡ first_state = ap (λ (rows : List (List ℕ × Stored)). record { count = 0; rows = rows }) c.new.ensures.empty in
-    record {
-      telling = same_telling _ _ (c.in_ok-log.ensures.same (λ e. cc e));
-      is_open = c.in_ok-log.ensures.opened.is_open;
-      version = c.in_ok-log.ensures.version;
-      state = rows ∙ sym (ap replay none);
-      size = omega (arith, c.in_ok-log.ensures.fresh, ap (λ (h : History). log_size (payloads_of_history h)) none);
-      log = λ files told. first_log _ _ (c.in_ok-log.ensures.same (λ e. cc e)) c.in_ok-log.ensures.made files told ∙ sym (ap payloads_of_history none);
-    }
+pub returns-in-Ok-load-clause-current : goal.returns-in-Ok-load-clause-current
+returns-in-Ok-load-clause-current g c =
+    let d = g.D.Disk in
+    opened_over (d.seen c.args.disk.now) (d.seen c.open.new.disk) (d.seen c.load.new.disk) c.load.new.self (c.in-Ok.ensures.same (λ e. cc e)) c.load.ensures.read.seen_same
+    (readable_after d.seen d.may_leave d.moment d.left_since c.args.disk.now c.open.new.disk c.in-Ok.log c.in-Ok.ensures.opened.stands c.in-Ok.ensures.opened.is_open c.in-Ok.ensures.version (c.in-Ok.ensures.settled (λ e. cc e)))
+    c.in-Ok-load.ensures.loaded
+
+pub returns-in-Ok-load-clause-opened : goal.returns-in-Ok-load-clause-opened
+returns-in-Ok-load-clause-opened g c =
+    let d = g.D.Disk in
+    opened_readable (d.seen c.args.disk.now) (d.seen c.open.new.disk) (d.seen c.load.new.disk) c.load.new.self (c.in-Ok.ensures.same (λ e. cc e)) c.load.ensures.read.seen_same
+    (readable_after d.seen d.may_leave d.moment d.left_since c.args.disk.now c.open.new.disk c.in-Ok.log c.in-Ok.ensures.opened.stands c.in-Ok.ensures.opened.is_open c.in-Ok.ensures.version (c.in-Ok.ensures.settled (λ e. cc e)))
+    c.in-Ok-load.ensures.small c.in-Ok-load.ensures.loaded
+
+pub returns-in-Err-load-clause-refused : goal.returns-in-Err-load-clause-refused
+returns-in-Err-load-clause-refused g c why is =
+    let d = g.D.Disk in
+    let same : c.in-Err-load.end ≡ OpenEnd.Unreadable why = cc in
+    refused_before d.seen d.may_leave d.moment d.left_since c.args.disk.now c.open.new.disk c.load.new.disk why (c.in-Ok.ensures.settled (λ e. cc e)) c.load.ensures.read (c.in-Err-load.ensures.foreign why (ap (λ e. Err e) same))
+
+pub returns-in-Err-clause-refused : goal.returns-in-Err-clause-refused
+returns-in-Err-clause-refused g c why is =
+    let d = g.D.Disk in
+    let same : c.refused.result ≡ OpenEnd.Unreadable why = cc in
+    let end = sym c.refused.ensures ∙ same in
+    refused_log d.seen d.may_leave d.moment d.left_since c.args.disk.now c.open.new.disk why (c.in-Err.ensures.settled (λ e. refusal_not_disk c.in-Err.error why end (cc)))
+    (λ files seen_is. refusal_is c.in-Err.error why files (c.in-Err.ensures.answer files seen_is) end)
