@@ -6,7 +6,7 @@ ghost use Rattle.std.specs.Io.KnownBytes.{ReadConsumes, WriteAppends};
 use mt_edge::{ReadStep, Sink, Source, WriteStep};
 use std::alloc::{AllocError, Global};
 use std::io;
-use std::io::{BufReader, ErrorKind, Read, Write};
+use std::io::{BufRead, BufReader, ErrorKind, Read, Write};
 use std::marker::Model;
 use std::rt::{Stdin, Stdout};
 
@@ -98,8 +98,9 @@ fn write_retrying<W: Write>(writer: &mut W, piece: &[u8]) -> io::Result<usize>
     Err(io::Error::from(ErrorKind::Interrupted))
 }
 
-impl<R: Read> Source for Counted<R> {
+impl<R: Read> Source for Counted<BufReader<R>> {
     ghost use Rattle.std.specs.Prelude.{◌≡◌, ◌<◌, None, length, ⊤};
+    ghost use Rattle.std.specs.Io.Buffered.{reader_remaining};
     ghost use Rattle.mt_edge.specs.Stream.{Reads};
     ghost use Rattle.mt_adapters.specs.Device.{HandsOn, faults_after_read};
 
@@ -112,9 +113,18 @@ impl<R: Read> Source for Counted<R> {
     fn read(&mut self, into: &mut [u8]) -> ReadStep
         requires { 0 < length into.old }
         ensures reads { Reads None self.old.faults into.new result None self.new.faults }
-        ensures bytes { HandsOn (R.remaining self.old.device) into.new result (R.remaining self.new.device) }
+        ensures bytes { HandsOn (reader_remaining R.remaining self.old.device) into.new result
+            (reader_remaining R.remaining self.new.device) }
         ensures counted { self.new.faults ≡ faults_after_read self.old.faults result }
     {
+        // The layers above read a message's head in single bytes, so that this way is the one that counts.
+        if into.len() == 1 {
+            if let [first, ..] = self.device.buffer() {
+                into[0] = *first;
+                self.device.consume(1);
+                return ReadStep::Took(1);
+            }
+        }
         match read_retrying(&mut self.device, into) {
             Ok(0) => ReadStep::End,
             Ok(count) => ReadStep::Took(count),

@@ -10,6 +10,9 @@ use std::alloc::Global;
 /// The empty lines before a head and the head have no more bytes than this together.
 const HEAD_LIMIT: usize = 65_536;
 
+/// The room that is made at first for a head, in bytes.
+const FIRST_ROOM: usize = 1_024;
+
 /// What one more byte of a source was.
 #[derive(Clone, Copy)]
 pub(crate) enum ByteRead {
@@ -65,6 +68,9 @@ fn take_byte(head: &mut Vec<u8>, byte: u8) -> Taken
     if head.push(byte).is_err() {
         return Taken::Memory;
     }
+    if byte != b'\n' {
+        return Taken::More;
+    }
     if is_empty_line(head.as_slice()) {
         head.clear();
         return Taken::More;
@@ -108,7 +114,10 @@ pub(crate) fn find_head<S: Source>(alloc: Global, source: &mut S) -> HeadRead
     ensures read { ReadsHead (S.left source.old) (S.read_faults source.old)
         result (S.left source.new) (S.read_faults source.new) }
 {
-    let mut head = Vec::new(alloc);
+    let mut head = match Vec::with_capacity(alloc, FIRST_ROOM) {
+        Ok(head) => head,
+        Err(_) => return HeadRead::Memory,
+    };
     for _count in 0..HEAD_LIMIT {
         match read_byte(source) {
             ByteRead::Byte(byte) => match take_byte(&mut head, byte) {
