@@ -1,2 +1,2 @@
+mod Front
 mod Kept
-mod OneByte

@@ -1,8 +1,9 @@
 //! Readers and writers as sources and sinks, whose faults are counted.
-ghost use Rattle.std.specs.Prelude.{◌≡◌, ◌<◌, length, None};
+ghost use Rattle.std.specs.Prelude.{◌≡◌, ◌≢◌, ℕ, ◌+◌, ◌<◌, ◌≤◌, length, take, get_or, None};
 ghost use Rattle.std.specs.Io.{ReadsAtMost, WritesAtMost};
 ghost use Rattle.std.specs.Io.KnownBytes.{ReadConsumes, WriteAppends};
 
+use memchr::memchr;
 use mt_edge::{ReadStep, Sink, Source, WriteStep};
 use std::alloc::{AllocError, Global};
 use std::io;
@@ -10,7 +11,7 @@ use std::io::{BufRead, BufReader, ErrorKind, Read, Write};
 use std::marker::Model;
 use std::rt::{Stdin, Stdout};
 
-/// How many bytes are read ahead. The layers above ask for single bytes of a message's head.
+/// How many bytes are read ahead. The layers above ask for a message's head line by line.
 const BUFFER: usize = 65_536;
 
 /// How often a call that a signal cut short is tried.
@@ -98,10 +99,34 @@ fn write_retrying<W: Write>(writer: &mut W, piece: &[u8]) -> io::Result<usize>
     Err(io::Error::from(ErrorKind::Interrupted))
 }
 
+// How long the first line is, with its LF: all of the bytes where none of them is an LF.
+fn line_len(bytes: &[u8]) -> usize
+    ensures bound { result ≤ length bytes.now }
+    ensures line { (k : ℕ) → k + 1 < result → get_or bytes.now k 0 ≢ 10 }
+{
+    match memchr(b'\n', bytes) {
+        Some(place) => place + 1,
+        None => bytes.len(),
+    }
+}
+
+// Copies as much of the first line as there is and fits.
+fn copy_line(bytes: &[u8], into: &mut [u8]) -> usize
+    ensures fits { result ≤ length into.new }
+    ensures bound { result ≤ length bytes.now }
+    ensures copied { take result into.new ≡ take result bytes.now }
+    ensures line { (k : ℕ) → k + 1 < result → get_or into.new k 0 ≢ 10 }
+{
+    let most = bytes.len().min(into.len());
+    let count = line_len(&bytes[..most]);
+    into[..count].copy_from_slice(&bytes[..count]);
+    count
+}
+
 impl<R: Read> Source for Counted<BufReader<R>> {
     ghost use Rattle.std.specs.Prelude.{◌≡◌, ◌<◌, None, length, ⊤};
     ghost use Rattle.std.specs.Io.Buffered.{reader_remaining};
-    ghost use Rattle.mt_edge.specs.Stream.{Reads};
+    ghost use Rattle.mt_edge.specs.Stream.{IsWithinLine, Reads};
     ghost use Rattle.mt_adapters.specs.Device.{HandsOn, faults_after_read};
 
     ghost left = { λ c. None };
@@ -117,7 +142,7 @@ impl<R: Read> Source for Counted<BufReader<R>> {
             (reader_remaining R.remaining self.new.device) }
         ensures counted { self.new.faults ≡ faults_after_read self.old.faults result }
     {
-        // The layers above read a message's head in single bytes, so that this way is the one that counts.
+        // The layers above read the lines between chunks in single bytes, so that this way counts.
         if into.len() == 1 {
             if let [first, ..] = self.device.buffer() {
                 into[0] = *first;
@@ -133,6 +158,23 @@ impl<R: Read> Source for Counted<BufReader<R>> {
                 ReadStep::Failed
             }
         }
+    }
+
+    fn read_line(&mut self, into: &mut [u8]) -> ReadStep
+        requires { 0 < length into.old }
+        ensures reads { Reads None self.old.faults into.new result None self.new.faults }
+        ensures line { IsWithinLine result into.new }
+        ensures bytes { HandsOn (reader_remaining R.remaining self.old.device) into.new result
+            (reader_remaining R.remaining self.new.device) }
+        ensures counted { self.new.faults ≡ faults_after_read self.old.faults result }
+    {
+        let count = copy_line(self.device.buffer(), into);
+        if count == 0 {
+            // Nothing is read ahead, and this byte's read fills the buffer.
+            return self.read(&mut into[..1]);
+        }
+        self.device.consume(count);
+        ReadStep::Took(count)
     }
 
     ghost source_same = { λ a. tt };

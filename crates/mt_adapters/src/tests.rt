@@ -210,6 +210,39 @@ fn a_source_reads_ahead_and_loses_nothing(rt: HostRuntime) -> Result<(), Fail> {
 }
 
 #[test]
+fn a_line_is_given_whole_and_nothing_behind_it(rt: HostRuntime) -> Result<(), Fail> {
+    use Answer::{Broken, Bytes, Interrupted};
+    use ReadStep::{End, Failed, Took};
+    let answers: &'static [Answer] = &[
+        Bytes(b"GET /\r\nHost: ab\r"),
+        Broken,
+        Interrupted,
+        Bytes(b"\n\r\nbody"),
+    ];
+    let mut source = Counted::new(rt.alloc(), Fake::of(answers))?;
+    // what reads into pieces of eight bytes answer and give; one with nothing read ahead gives a byte
+    let table: [(ReadStep, &'static [u8]); 9] = [
+        (Took(1), b"G"),
+        (Took(6), b"ET /\r\n"),
+        (Took(8), b"Host: ab"),
+        (Took(1), b"\r"),
+        (Failed, b""),
+        (Took(1), b"\n"),
+        (Took(2), b"\r\n"),
+        (Took(4), b"body"),
+        (End, b""),
+    ];
+    for (step, bytes) in table {
+        let mut into = [0; 8];
+        assert_eq!(rt; source.read_line(&mut into), step);
+        assert!(rt; into.starts_with(bytes));
+        assert!(rt; into[bytes.len()..].iter().all(|byte| *byte == 0));
+    }
+    assert_eq!(rt; source.faults(), 1);
+    Ok(())
+}
+
+#[test]
 fn a_sink_that_takes_nothing_fails(rt: HostRuntime) -> Result<(), Fail> {
     use Answer::{Broken, Count, Interrupted};
     // what the device answers, whether all of five bytes was written, the faults

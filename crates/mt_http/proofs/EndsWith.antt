@@ -1,5 +1,5 @@
 -- Two tests of the last bytes find an empty line
-use Rattle.std.proofs.Common.{◌≡◌, ℕ, ◌-◌, ◌⊎◌, inl, inr, Bool, true, List, [], ◌∷◌, ◌++◌, length, take, refl, ap, sym, ◌∙◌, append_assoc}
+use Rattle.std.proofs.Common.{◌≡◌, ◌≢◌, ℕ, suc, ◌-◌, ◌<◌, ◌⊎◌, inl, inr, Bool, true, List, [], ◌∷◌, ◌++◌, length, take, get_or, refl, ap, sym, subst, ◌+◌, length-take, ◌∙◌, append_assoc, append-nil, arith}
 use Rattle.std.specs.List.{ends_with}
 use Rattle.std.specs.Prelude.{nat_eq}
 use Rattle.std.proofs.lemmas.Bool.Decides.{Decides-eqb}
@@ -7,6 +7,12 @@ use Rattle.std.proofs.lemmas.Slice.Eq.{ends_is}
 use Rattle.httparse.specs.Ascii.{line_feed, carriage_return}
 use Rattle.httparse.specs.Grammar.{LineEnd, lf, crlf, print_end}
 use Rattle.mt_http.specs.Framing.{EndsWithEmptyLine}
+use Rattle.std.proofs.lemmas.List.{get_or-take, take_all}
+use Rattle.std.proofs.Math.Seq.{take-suc}
+use Rattle.mt_http.specs.Reading.{IsHeadFront, TakesByte, TakesPiece}
+use Rattle.mt_http.specs.declared.head.Taken.{Taken}
+use Rattle.mt_http.specs.declared.head.Taken.TheVariants as taken
+use Rattle.mt_http.proofs.Heads.{front_push}
 
 abbrev lf_lf : List ℕ
 lf_lf = line_feed ∷ line_feed ∷ []
@@ -49,3 +55,33 @@ pub is_by_feed : (xs : List ℕ) (b : ℕ) (line : LineEnd) → xs ++ b ∷ [] �
 unfolding last_of
 is_by_feed xs b lf is = sym (last-append xs b) ∙ ap last_of is
 is_by_feed xs b crlf is = sym (last-append xs b) ∙ ap last_of is
+
+-- bytes without an LF go on with a head
+pub front_more : (old bytes : List ℕ) → IsHeadFront old → ((k : ℕ) → k < length bytes → get_or bytes k 0 ≢ line_feed) → IsHeadFront (old ++ bytes)
+front_more old [] front none = subst IsHeadFront (sym (append-nil old)) front
+front_more old (b ∷ bytes) front none =
+    let first : b ≢ line_feed = none 0 (omega arith) in
+    let goes_on = λ (w : EndsWithEmptyLine (old ++ b ∷ [])). first (ends_by_feed old b w) in
+    let other = λ (w : (line : LineEnd) × (old ++ b ∷ [] ≡ print_end line)). first (is_by_feed old b w.0 w.1) in
+    subst IsHeadFront (append_assoc old (b ∷ []) bytes) (front_more (old ++ b ∷ []) bytes (front_push old b front other goes_on) (λ k less. none (suc k) (omega (arith, less))))
+
+-- all of a line but its last byte
+pub front_most : (old piece : List ℕ) → IsHeadFront old → ((k : ℕ) → k + 1 < length piece → get_or piece k 0 ≢ line_feed) → IsHeadFront (old ++ take (length piece - 1) piece)
+front_most old piece front line =
+    let most = length piece - 1 in
+    front_more old (take most piece) front (λ k less is.
+    let inside : k < most = omega (arith, less, length-take most piece) in
+    line k (omega (arith, inside)) (sym (get_or-take most piece k 0 inside) ∙ is))
+
+-- and its last byte
+pub last_of_piece : (piece : List ℕ) → 0 < length piece → piece ≡ take (length piece - 1) piece ++ get_or piece (length piece - 1) 0 ∷ []
+last_of_piece piece some =
+    let most = length piece - 1 in
+    let whole : suc most ≡ length piece = omega arith in
+    sym (take_all (length piece) piece (omega arith)) ∙ (ap (λ (n : ℕ). take n piece) (sym whole) ∙ take-suc piece most 0 (omega arith))
+
+-- what a last byte does, the piece does
+pub piece_taken : (old piece mid : List ℕ) (b : ℕ) (r : Taken) (new : List ℕ) → mid ++ b ∷ [] ≡ old ++ piece → TakesByte mid b r new → TakesPiece old piece r new
+piece_taken old piece mid b taken.More new same (lines, is, front) = (lines, sym same ∙ is, front)
+piece_taken old piece mid b taken.Whole new same (is, whole) = (is ∙ same, whole)
+piece_taken old piece mid b taken.Memory new same done = tt

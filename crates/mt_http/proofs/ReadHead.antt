@@ -12,15 +12,15 @@ use Rattle.mt_http.specs.Framing.{head_limit, HasNoHead, EndsInHead, HasLongHead
 use Rattle.mt_http.specs.Reading.{IsHeadFront, IsLineFront, EndsAfter, ReadsHead}
 use Rattle.mt_http.proofs.Heads.{front_is_no_head, long_no_head, begun_not_lines}
 
--- one more byte was read, and it may have made empty lines
-pub read_on : (left : Option (List ℕ)) (lines : List LineEnd) (head : List ℕ) (mid : Option (List ℕ)) (b : ℕ) (left' : Option (List ℕ)) (more : List LineEnd) (new : List ℕ) (count : ℕ)
-    → LeftAfter left (print_blank lines ++ head) mid → length (print_blank lines ++ head) ≡ count → LeftAfter mid (b ∷ []) left' → head ++ b ∷ [] ≡ print_blank more ++ new
-    → (all : List LineEnd) × LeftAfter left (print_blank all ++ new) left' × (length (print_blank all ++ new) ≡ count + 1)
-read_on left lines head mid b left' more new count before size byte makes =
-    let e = append_assoc (print_blank lines) head (b ∷ []) ∙ ap (λ l. print_blank lines ++ l) makes ∙ sym (append_assoc (print_blank lines) (print_blank more) new) ∙ ap (λ l. l ++ new) (sym (flat_map-append print_end lines more)) in (
+-- one more piece was read, and it may have made empty lines
+pub read_on : (left : Option (List ℕ)) (lines : List LineEnd) (head : List ℕ) (mid : Option (List ℕ)) (piece : List ℕ) (left' : Option (List ℕ)) (more : List LineEnd) (new : List ℕ) (count size : ℕ)
+    → LeftAfter left (print_blank lines ++ head) mid → length (print_blank lines ++ head) ≡ count → LeftAfter mid piece left' → length piece ≡ size → head ++ piece ≡ print_blank more ++ new
+    → (all : List LineEnd) × LeftAfter left (print_blank all ++ new) left' × (length (print_blank all ++ new) ≡ count + size)
+read_on left lines head mid piece left' more new count size before counted taken long makes =
+    let e = append_assoc (print_blank lines) head piece ∙ ap (λ l. print_blank lines ++ l) makes ∙ sym (append_assoc (print_blank lines) (print_blank more) new) ∙ ap (λ l. l ++ new) (sym (flat_map-append print_end lines more)) in (
       lines ++ more,
-      subst (λ l. LeftAfter left l left') e (left_after left (print_blank lines ++ head) mid (b ∷ []) left' before byte),
-      omega (arith, ap length e, length-append (print_blank lines ++ head) (b ∷ []), size),
+      subst (λ l. LeftAfter left l left') e (left_after left (print_blank lines ++ head) mid piece left' before taken),
+      omega (arith, ap length e, length-append (print_blank lines ++ head) piece, counted, long),
     )
 
 -- what stands at the front of all that was left

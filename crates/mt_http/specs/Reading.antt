@@ -33,6 +33,12 @@ TakesByte old b taken.More new = (lines : List LineEnd) × (old ++ b ∷ [] ≡ 
 TakesByte old b taken.Whole new = (new ≡ old ++ b ∷ []) × IsHead new
 TakesByte old b taken.Memory new = Unit {0}
 
+-- one more piece of a line of a head: it may end an empty line that stands before the head
+abbrev pub TakesPiece : List ℕ → List ℕ → Taken → List ℕ → Type 0
+TakesPiece old piece taken.More new = (lines : List LineEnd) × (old ++ piece ≡ print_blank lines ++ new) × IsHeadFront new
+TakesPiece old piece taken.Whole new = (new ≡ old ++ piece) × IsHead new
+TakesPiece old piece taken.Memory new = Unit {0}
+
 -- nothing, or the CR that an empty line may begin with
 abbrev pub IsLineFront : List ℕ → Type 0
 IsLineFront bytes = (bytes ≡ []) ⊎ (bytes ≡ carriage_return ∷ [])

@@ -1,8 +1,8 @@
-//! The head of a message, read byte by byte: no byte after it is taken.
-ghost use Rattle.std.specs.Prelude.{◌≡◌, ◌↔◌, IsTrue};
+//! The head of a message, read by parts of lines: no byte after it is taken.
+ghost use Rattle.std.specs.Prelude.{◌≡◌, ◌≢◌, ◌↔◌, ◌<◌, ◌+◌, ℕ, IsTrue, get_or, length};
 ghost use Rattle.httparse.specs.Grammar.{LineEnd, print_end};
 ghost use Rattle.mt_http.specs.Framing.{EndsWithEmptyLine};
-ghost use Rattle.mt_http.specs.Reading.{EndsAfter, IsHeadFront, ReadsByte, ReadsHead, TakesByte};
+ghost use Rattle.mt_http.specs.Reading.{EndsAfter, IsHeadFront, ReadsByte, ReadsHead, TakesByte, TakesPiece};
 
 use mt_edge::{ReadStep, Source};
 use std::alloc::Global;
@@ -12,6 +12,9 @@ const HEAD_LIMIT: usize = 65_536;
 
 /// The room that is made at first for a head, in bytes.
 const FIRST_ROOM: usize = 1_024;
+
+/// A head is read by pieces of at most so many bytes, each within a line.
+const PIECE: usize = 256;
 
 /// What one more byte of a source was.
 #[derive(Clone, Copy)]
@@ -82,6 +85,20 @@ fn take_byte(head: &mut Vec<u8>, byte: u8) -> Taken
     }
 }
 
+// A piece of one line of a head, of which no byte but the last is an LF.
+fn take_piece(head: &mut Vec<u8>, piece: &[u8]) -> Taken
+    requires front { IsHeadFront head.old.items }
+    requires some { 0 < length piece.now }
+    requires line { (k : ℕ) → k + 1 < length piece.now → get_or piece.now k 0 ≢ 10 }
+    ensures { TakesPiece head.old.items piece.now result head.new.items }
+{
+    let last = piece.len() - 1;
+    match head.extend_from_slice(&piece[..last]) {
+        Ok(()) => take_byte(head, piece[last]),
+        Err(_) => Taken::Memory,
+    }
+}
+
 /// What became of a head.
 #[derive(Drop)]
 pub(crate) enum HeadRead {
@@ -107,8 +124,8 @@ fn ended(head: &[u8]) -> HeadRead
     }
 }
 
-/// Reads the head at the front of a source, and the empty lines before it. A head takes memory in proportion
-/// to its length.
+/// Reads the head at the front of a source, and the empty lines before it. A head takes 1,024 bytes of memory, and more
+/// in proportion to its length.
 pub(crate) fn find_head<S: Source>(alloc: Global, source: &mut S) -> HeadRead
     ensures stays { S.source_stays source.old source.new }
     ensures read { ReadsHead (S.left source.old) (S.read_faults source.old)
@@ -118,15 +135,19 @@ pub(crate) fn find_head<S: Source>(alloc: Global, source: &mut S) -> HeadRead
         Ok(head) => head,
         Err(_) => return HeadRead::Memory,
     };
-    for _count in 0..HEAD_LIMIT {
-        match read_byte(source) {
-            ByteRead::Byte(byte) => match take_byte(&mut head, byte) {
-                Taken::More => {}
+    let mut piece = [0; PIECE];
+    let mut taken = 0;
+    'pieces: while taken < HEAD_LIMIT {
+        let room = PIECE.min(HEAD_LIMIT - taken);
+        let into = &mut piece[..room];
+        match source.read_line(into) {
+            ReadStep::Took(count) => match take_piece(&mut head, &into[..count]) {
+                Taken::More => taken += count,
                 Taken::Whole => return HeadRead::Whole(head),
                 Taken::Memory => return HeadRead::Memory,
             },
-            ByteRead::End => return ended(head.as_slice()),
-            ByteRead::Fault => return HeadRead::SourceFault,
+            ReadStep::End => return ended(head.as_slice()),
+            ReadStep::Failed => return HeadRead::SourceFault,
         }
     }
     match read_byte(source) {

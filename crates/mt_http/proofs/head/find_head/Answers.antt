@@ -1,36 +1,38 @@
-use Rattle.std.proofs.Common.{arith}
+use Rattle.std.proofs.Common.{arith, length-take, ℕ}
 use Rattle.mt_http.proofs.ReadHead.{read_on, head_ended, head_too_long}
 use Rattle.mt_http.proofs.head.find_head.Goals as goal
 
+pub pieces-preserved : goal.pieces-preserved
+pieces-preserved g c =
+    let l = c.pieces.invariant in
+    let took = c.in-Took.ensures.reads in
+    let taken = c.in-More.ensures in
+    record {
+      so_far = read_on _ l.so_far.0 c.pieces.head.items _ _ _ taken.0 c.take_piece.new.head.items c.pieces.taken c.in-Took.count l.so_far.1 l.so_far.2 took.2 (omega (arith, took.1, length-take {A = ℕ})) taken.1;
+      front = taken.2;
+      stays = g.met.S.Source.source_joined _ _ _ l.stays c.in-Took.ensures.stays;
+      faults = omega (arith, l.faults, took.3);
+      within = omega (arith, l.within, took.1, c.pieces-test.true, c.min-room.ensures, length-take {A = ℕ});
+    }
+
 pub returns-in-End-clause-read : goal.returns-in-End-clause-read
 returns-in-End-clause-read g c =
-    let kept = c.loop-count.invariant in
-    let ended = c.in-End.ensures.read in
-    head_ended _ _ kept.0.0 c.loop-count.head.items c.ended.result _ _ kept.0.1 (omega (arith, kept.0.2)) kept.1 ended.0 (omega (arith, kept.3, ended.1))
+    let l = c.pieces.invariant in
+    let ended = c.in-End.ensures.reads in
+    head_ended _ _ l.so_far.0 c.pieces.head.items c.ended.result _ _ l.so_far.1 (omega (arith, l.so_far.2, l.within)) l.front ended.0 (omega (arith, l.faults, ended.2))
     (rw c.as_slice.ensures.value at c.ended.ensures) _
 
-pub loop-count-preserved : goal.loop-count-preserved
-loop-count-preserved g c =
-    let kept = c.loop-count.invariant in
-    let byte = c.in-Byte.ensures.read in
-    let taken = c.in-More.ensures in (
-      read_on _ kept.0.0 c.loop-count.head.items _ c.in-Byte.byte _ taken.0 c.take_byte.new.head.items c.loop-count._count kept.0.1 kept.0.2 byte.0 taken.1,
-      taken.2,
-      g.met.S.Source.source_joined _ _ _ kept.2 c.in-Byte.ensures.stays,
-      omega (arith, kept.3, byte.1),
-    )
-
-pub returns-in-Byte-read_byte-clause-read : goal.returns-in-Byte-read_byte-clause-read
-returns-in-Byte-read_byte-clause-read g c =
-    let kept = c.loop-count.invariant in
-    let byte = c.in-Byte-read_byte.ensures.read in (
-      head_too_long _ kept.0.0 c.loop-count.head.items _ c.in-Byte-read_byte.field-0 _ kept.0.1 (omega (arith, kept.0.2)) kept.1 byte.0,
-      omega (arith, kept.3, byte.1),
+pub returns-in-Byte-clause-read : goal.returns-in-Byte-clause-read
+returns-in-Byte-clause-read g c =
+    let l = c.pieces.invariant in
+    let byte = c.in-Byte.ensures.read in (
+      head_too_long _ l.so_far.0 c.pieces.head.items _ c.in-Byte.field-0 _ l.so_far.1 (omega (arith, l.so_far.2, l.within, c.pieces-test.false)) l.front byte.0,
+      omega (arith, l.faults, byte.1),
     )
 
 pub returns-in-End-read_byte-clause-read : goal.returns-in-End-read_byte-clause-read
 returns-in-End-read_byte-clause-read g c =
-    let kept = c.loop-count.invariant in
+    let l = c.pieces.invariant in
     let ended = c.in-End-read_byte.ensures.read in
-    head_ended _ _ kept.0.0 c.loop-count.head.items c.ended-in-End-read_byte.result _ _ kept.0.1 (omega (arith, kept.0.2)) kept.1 ended.0 (omega (arith, kept.3, ended.1))
+    head_ended _ _ l.so_far.0 c.pieces.head.items c.ended-in-End-read_byte.result _ _ l.so_far.1 (omega (arith, l.so_far.2, l.within)) l.front ended.0 (omega (arith, l.faults, ended.1))
     (rw c.as_slice-in-End-read_byte.ensures.value at c.ended-in-End-read_byte.ensures) _

@@ -1,5 +1,5 @@
 use Rattle.std.proofs.Common.{ap}
-use Rattle.mt_adapters.proofs.OneByte.{takes_first}
+use Rattle.mt_adapters.proofs.Front.{takes_first}
 use Rattle.mt_adapters.proofs.counted.CountedBufReaderSource.read.Goals as goal
 
 pub returns-in-len1-up-clause-bytes : goal.returns-in-len1-up-clause-bytes
