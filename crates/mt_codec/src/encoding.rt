@@ -27,7 +27,7 @@ pub fn encode(alloc: Global, command: &Command<Body>) -> Result<Vec<u8>, AllocEr
     Ok(out)
 }
 
-/// A command.
+// A command.
 #[tactic(auto, unfolding(crate::specs::Spelling::spelling))]
 fn put_command(out: &mut Vec<u8>, command: &Command<Body>) -> Result<(), AllocError>
     requires { IsWithinLimits command.now }
@@ -56,7 +56,7 @@ fn put_command(out: &mut Vec<u8>, command: &Command<Body>) -> Result<(), AllocEr
     }
 }
 
-/// A command of a job.
+// A command of a job.
 #[tactic(auto, unfolding(crate::specs::Spelling::spelling))]
 fn put_job_command(out: &mut Vec<u8>, command: &Command<Body>) -> Result<(), AllocError>
     requires limits { IsWithinLimits command.now }
@@ -88,7 +88,7 @@ fn put_job_command(out: &mut Vec<u8>, command: &Command<Body>) -> Result<(), All
     }
 }
 
-/// A command of an upload.
+// A command of an upload.
 #[tactic(auto, unfolding(crate::specs::Spelling::spelling))]
 fn put_upload_command(out: &mut Vec<u8>, command: &Command<Body>) -> Result<(), AllocError>
     requires limits { IsWithinLimits command.now }
@@ -118,7 +118,7 @@ fn put_upload_command(out: &mut Vec<u8>, command: &Command<Body>) -> Result<(), 
     }
 }
 
-/// A put.
+// A put.
 fn put_put(
     out: &mut Vec<u8>,
     path: &Path,
@@ -142,7 +142,7 @@ fn put_put(
     put_body(out, body)
 }
 
-/// A first byte, a moment, a path and a content type.
+// A first byte, a moment, a path and a content type.
 fn put_typed(
     out: &mut Vec<u8>,
     mark: u8,
@@ -158,7 +158,7 @@ fn put_typed(
     put_content_type(out, content_type)
 }
 
-/// A first byte, a moment and a path.
+// A first byte, a moment and a path.
 fn put_at_path(out: &mut Vec<u8>, mark: u8, moment: u64, path: &Path) -> Result<(), AllocError>
     ensures { OnOk result (out.new.items ≡ out.old.items ++ mark ∷ (big_endian_64 moment ++ path_spelling path.now)) }
 {
@@ -167,7 +167,7 @@ fn put_at_path(out: &mut Vec<u8>, mark: u8, moment: u64, path: &Path) -> Result<
     put_path(out, path)
 }
 
-/// A first byte, a moment and the number of a job or of an upload.
+// A first byte, a moment and the number of a job or of an upload.
 fn put_of_job(out: &mut Vec<u8>, mark: u8, moment: u64, job: u64) -> Result<(), AllocError>
     ensures { OnOk result (out.new.items ≡ out.old.items ++ mark ∷ (big_endian_64 moment ++ big_endian_64 job)) }
 {
@@ -241,7 +241,7 @@ fn put_close(
     put_archive(out, archive)
 }
 
-/// The number of a flag.
+// The number of a flag.
 fn flag_code(flag: bool) -> u8
     ensures { result ≡ flag_number flag }
 {

@@ -139,7 +139,7 @@ pub fn durability(cursor: &mut Cursor) -> Result<Option<u8>, DecodeError>
     }
 }
 
-/// A number of copies.
+// A number of copies.
 fn copies(cursor: &mut Cursor) -> Result<u8, DecodeError>
     ensures { Gives result cursor.new (tested is_durability byte_at cursor.old) }
 {

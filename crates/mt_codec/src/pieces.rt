@@ -22,7 +22,7 @@ use mt_types::{Body, Bytes, Field, Fields, Path, Sequence, Text};
 use std::alloc::{AllocError, Global};
 use std::str;
 
-/// A copy of bytes that are UTF-8.
+// A copy of bytes that are UTF-8.
 fn text_of(alloc: Global, piece: &[u8]) -> Result<Text, DecodeError>
     ensures { Makes result (if is_utf8 piece.now then Some piece.now else None) }
 {
@@ -32,7 +32,7 @@ fn text_of(alloc: Global, piece: &[u8]) -> Result<Text, DecodeError>
     }
 }
 
-/// A copy of bytes that are known to be UTF-8.
+// A copy of bytes that are known to be UTF-8.
 fn known_text(alloc: Global, piece: &[u8]) -> Result<Text, AllocError>
     requires { IsUtf8 piece.now }
     ensures { IfOk result (λ t. t ≡ piece.now) }
@@ -54,7 +54,7 @@ pub fn content_type(alloc: Global, cursor: &mut Cursor) -> Result<Text, DecodeEr
     Ok(known_text(alloc, piece)?)
 }
 
-/// The name of a piece of metadata.
+// The name of a piece of metadata.
 fn metadata_name(alloc: Global, cursor: &mut Cursor) -> Result<Text, DecodeError>
     ensures { Gives result cursor.new (tested is_metadata_name (sized (number_at w16)) cursor.old) }
 {
@@ -65,7 +65,7 @@ fn metadata_name(alloc: Global, cursor: &mut Cursor) -> Result<Text, DecodeError
     Ok(known_text(alloc, piece)?)
 }
 
-/// The value of a piece of metadata.
+// The value of a piece of metadata.
 fn metadata_value(alloc: Global, cursor: &mut Cursor) -> Result<Bytes, DecodeError>
     ensures { Gives result cursor.new (tested is_plain_text (sized (number_at w16)) cursor.old) }
 {
@@ -109,7 +109,7 @@ pub fn line_text(alloc: Global, cursor: &mut Cursor) -> Result<Text, DecodeError
     text_of(alloc, piece)
 }
 
-/// A component of a path.
+// A component of a path.
 fn component(alloc: Global, cursor: &mut Cursor) -> Result<Bytes, DecodeError>
     ensures { Gives result cursor.new (component_at cursor.old) }
 {
@@ -120,7 +120,7 @@ fn component(alloc: Global, cursor: &mut Cursor) -> Result<Bytes, DecodeError>
     Ok(Bytes::from_slice(alloc, piece)?)
 }
 
-/// An area.
+// An area.
 fn area(cursor: &mut Cursor) -> Result<Area, DecodeError>
     ensures { Gives result cursor.new (named area_numbered byte_at cursor.old) }
 {
@@ -152,7 +152,7 @@ impl Spelled for Bytes {
     }
 }
 
-/// The components of a path.
+// The components of a path.
 fn components(alloc: Global, cursor: &mut Cursor) -> Result<Vec<Bytes>, DecodeError>
     ensures { Shows (λ parts. parts.items) result cursor.new (counted (number_at w16) component_at cursor.old) }
 {
@@ -174,7 +174,7 @@ pub fn path(alloc: Global, cursor: &mut Cursor) -> Result<Path, DecodeError>
     Ok(Path::from_parts(area, parts))
 }
 
-/// Whether a path has no more bytes than one may have.
+// Whether a path has no more bytes than one may have.
 fn is_short(area: Area, parts: &[Bytes]) -> bool
     ensures { result ≡ is_short (path_of (area, parts.now)) }
 {
@@ -182,7 +182,7 @@ fn is_short(area: Area, parts: &[Bytes]) -> bool
     is_within(parts, LONGEST_PATH - area_len)
 }
 
-/// Whether components, each with its slash, have at most so many bytes.
+// Whether components, each with its slash, have at most so many bytes.
 fn is_within(parts: &[Bytes], most: usize) -> bool
     ensures { result ≡ nat_le (length (slashed parts.now)) most }
 {
@@ -235,7 +235,7 @@ pub fn body(cursor: &mut Cursor) -> Result<Body, DecodeError>
     })
 }
 
-/// A piece of metadata.
+// A piece of metadata.
 #[tactic(auto, unfolding(crate::specs::Readers::field_at))]
 fn field(alloc: Global, cursor: &mut Cursor) -> Result<Field, DecodeError>
     ensures { Gives result cursor.new (field_at cursor.old) }

@@ -52,14 +52,14 @@ pub fn room(command: &Command<Body>) -> usize {
     }
 }
 
-/// The first byte, the moment, a path and a content type.
+// The first byte, the moment, a path and a content type.
 fn typed_room(path: &Path, content_type: &Text) -> usize {
     path_room(path)
         .saturating_add(content_type.len())
         .saturating_add(BEGIN + 2)
 }
 
-/// A durability and metadata, where there is either.
+// A durability and metadata, where there is either.
 fn marks_room(durability: Option<u8>, metadata: &[Field]) -> usize {
     if !is_marked(durability, metadata) {
         return 0;

@@ -69,7 +69,7 @@ pub fn judge<B>(conditions: &Conditions, object: Option<&Object<B>>, is_read: bo
     }
 }
 
-/// Whether If-Match holds, or else If-Unmodified-Since.
+// Whether If-Match holds, or else If-Unmodified-Since.
 fn is_expected<B>(conditions: &Conditions, object: Option<&Object<B>>) -> bool
     ensures { result ≡ expected_by conditions.now.if_match conditions.now.if_unmodified_since (option_copied object.entry) }
 {
@@ -84,7 +84,7 @@ fn is_expected<B>(conditions: &Conditions, object: Option<&Object<B>>) -> bool
     }
 }
 
-/// Whether If-None-Match holds, or else, for a read, If-Modified-Since.
+// Whether If-None-Match holds, or else, for a read, If-Modified-Since.
 fn is_news<B>(conditions: &Conditions, object: Option<&Object<B>>, is_read: bool) -> bool
     ensures { result ≡ news_by conditions.now.if_none_match conditions.now.if_modified_since is_read (option_copied object.entry) }
 {
@@ -100,7 +100,7 @@ fn is_news<B>(conditions: &Conditions, object: Option<&Object<B>>, is_read: bool
     }
 }
 
-/// The date in the first field of a name, if it can be read.
+// The date in the first field of a name, if it can be read.
 fn date_in(fields: &[Field], name: &str) -> Option<u64>
     ensures { result ≡ date_in name.now fields.now }
 {

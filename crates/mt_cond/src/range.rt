@@ -60,7 +60,7 @@ impl Range {
     }
 }
 
-/// The range that a value writes.
+// The range that a value writes.
 fn range_written(value: &[u8]) -> Option<Range>
     ensures { result ≡ range_written value.now }
 {
@@ -69,7 +69,7 @@ fn range_written(value: &[u8]) -> Option<Range>
     range_between(&ends[..place], &ends[place + 1..])
 }
 
-/// The place of the first hyphen.
+// The place of the first hyphen.
 fn hyphen_at(ends: &[u8]) -> Option<usize>
     ensures place { result ≡ position is_hyphen ends.now }
     ensures within { IfSome result (λ place. place < length ends.now) }
@@ -77,7 +77,7 @@ fn hyphen_at(ends: &[u8]) -> Option<usize>
     ends.iter().position(|b| *b == b'-')
 }
 
-/// The range between what stands before the hyphen and behind it.
+// The range between what stands before the hyphen and behind it.
 fn range_between(first: &[u8], last: &[u8]) -> Option<Range>
     ensures { result ≡ range_between first.now last.now }
 {

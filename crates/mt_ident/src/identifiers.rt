@@ -51,7 +51,7 @@ pub fn uuid_number(kind: u8, text: &[u8]) -> Option<u64>
     }
 }
 
-/// Whether a text is that of this identifier.
+// Whether a text is that of this identifier.
 fn is_identifier(kind: u8, number: u64, text: &[u8]) -> bool
     ensures { IsTrue result ↔ IsIdentifier kind number text.now }
 {
@@ -61,7 +61,7 @@ fn is_identifier(kind: u8, number: u64, text: &[u8]) -> bool
     uuid_text(kind, number).as_slice() == text
 }
 
-/// The last 63 bits of a UUID in any of its forms, without the variant's bit.
+// The last 63 bits of a UUID in any of its forms, without the variant's bit.
 fn last_bits(text: &[u8]) -> Option<u64>
     ensures { (kind n : ℕ) → IsIdentifier kind n text.now → result ≡ Some n }
 {

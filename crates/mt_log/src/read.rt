@@ -17,7 +17,7 @@ use std::alloc::AllocError;
 pub enum ReadFault {
     /// The disk has failed.
     Disk,
-    /// Memory was wanted.
+    /// Out of memory.
     Memory,
 }
 

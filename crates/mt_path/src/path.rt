@@ -163,7 +163,7 @@ impl Path {
         }
     }
 
-    /// The number of bytes of the text without the login.
+    // The number of bytes of the text without the login.
     fn text_len(&self) -> usize
         ensures value { result ≡ length (local_text self.now) }
         ensures short { result ≤ LONGEST_PATH }
@@ -208,7 +208,7 @@ fn same_parts(a: &[Bytes], b: &[Bytes]) -> bool
     a == b
 }
 
-/// The text of a path.
+// The text of a path.
 fn path_bytes(
     alloc: Global,
     login: &[u8],
@@ -226,7 +226,7 @@ fn path_bytes(
     Ok(text)
 }
 
-/// A slash and a name, at the end of a text.
+// A slash and a name, at the end of a text.
 fn put_name(text: &mut Vec<u8>, name: &[u8]) -> Result<(), AllocError>
     ensures { OnOk result (text.new.items ≡ text.old.items ++ slash ∷ name.now) }
 {

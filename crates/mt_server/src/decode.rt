@@ -21,7 +21,7 @@ const MOST_BODY: u32 = 1_073_741_824;
 pub enum DecodeError {
     /// No put has these bytes.
     NotAPut,
-    /// Memory was wanted.
+    /// Out of memory.
     Memory,
 }
 

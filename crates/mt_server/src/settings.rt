@@ -36,7 +36,7 @@ const GREATEST_LIMIT: u64 = 1 << 36;
 pub enum SettingsError {
     /// The words are not of the grammar.
     Usage,
-    /// Memory was wanted.
+    /// Out of memory.
     Memory,
 }
 

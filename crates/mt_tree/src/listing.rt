@@ -76,7 +76,7 @@ pub fn copy_rows<B: Duplicate>(
     }
 }
 
-/// Adds rows at the end of a list, until it has `limit`.
+// Adds rows at the end of a list, until it has `limit`.
 fn push_rows<B: Duplicate>(
     alloc: Global,
     area: Area,
@@ -96,14 +96,14 @@ fn push_rows<B: Duplicate>(
     Ok(())
 }
 
-/// Whether one path begins with another.
+// Whether one path begins with another.
 fn begins(dir: &[Bytes], path: &[Bytes]) -> bool
     ensures { result ≡ begins dir.now path.now }
 {
     dir.len() <= path.len() && path[..dir.len()] == dir[..]
 }
 
-/// A row as a listing shows it.
+// A row as a listing shows it.
 fn shown<B: Duplicate>(
     alloc: Global,
     area: Area,
@@ -120,7 +120,7 @@ fn shown<B: Duplicate>(
     })
 }
 
-/// The path of the least name above a name, in a directory.
+// The path of the least name above a name, in a directory.
 fn next_below(alloc: Global, dir: &[Bytes], name: &Bytes) -> Result<Vec<Bytes>, AllocError>
     ensures { IfOk result (λ v. v.items ≡ dir.now ++ next_name name.now ∷ []) }
 {
@@ -129,7 +129,7 @@ fn next_below(alloc: Global, dir: &[Bytes], name: &Bytes) -> Result<Vec<Bytes>, 
     below(alloc, dir, next)
 }
 
-/// The path of a name in a directory.
+// The path of a name in a directory.
 fn below(alloc: Global, dir: &[Bytes], name: Vec<u8>) -> Result<Vec<Bytes>, AllocError>
     ensures { IfOk result (λ v. v.items ≡ dir.now ++ name.items ∷ []) }
 {

@@ -43,28 +43,28 @@ pub fn count<B>(rows: &[Row<B>], dir: &Path) -> u64
     n
 }
 
-/// Whether a page from a marker on may have this path.
+// Whether a page from a marker on may have this path.
 fn is_listed(dir: &Path, marker: &[u8], path: &Path) -> bool
     ensures { result ≡ (is_child dir.now path.now && is_from marker.now path.now) }
 {
     is_child(dir, path) && is_from(marker, path)
 }
 
-/// Whether one path is one below another.
+// Whether one path is one below another.
 fn is_child(dir: &Path, path: &Path) -> bool
     ensures { result ≡ is_child dir.now path.now }
 {
     path.is_under(dir) && path.len() - dir.len() == 1
 }
 
-/// Whether the name of a path is not below the marker.
+// Whether the name of a path is not below the marker.
 fn is_from(marker: &[u8], path: &Path) -> bool
     ensures { result ≡ is_from marker.now path.now }
 {
     marker.cmp(name_of(path)).is_le()
 }
 
-/// The last component of a path; of a root, no bytes.
+// The last component of a path; of a root, no bytes.
 fn name_of(path: &Path) -> &[u8]
     ensures { result.now ≡ name_of path.now }
 {

@@ -178,7 +178,7 @@ impl<B> Tree<B> {
         Ok(Sequence::from_vec(out))
     }
 
-    /// What stands at the path of these components.
+    // What stands at the path of these components.
     fn entry(&self, area: Area, parts: &[Bytes]) -> Option<&Entry<B>>
         ensures { option_copied result ≡ at self.now (record { area = area; parts = parts.now }) }
     {
@@ -188,7 +188,7 @@ impl<B> Tree<B> {
         }
     }
 
-    /// Whether a row may stand at a path: a directory above it, or none where it is a root.
+    // Whether a row may stand at a path: a directory above it, or none where it is a root.
     fn may_stand(&self, path: &Path) -> Result<(), Refusal>
         ensures { result ≡ answer (parent_refusal self.now path.now) }
     {
