@@ -3,26 +3,28 @@ ghost use Rattle.std.specs.Prelude.{◌≡◌, ◌≢◌, ◌<◌, ◌^◌, ◌+
 ghost use Rattle.std.specs.List.{flat_map, AllByRecursion};
 ghost use Rattle.mt_base.specs.Numbers.{big_endian_16, big_endian_32, big_endian_64};
 ghost use Rattle.mt_types.specs.Kinds.{OnRows, OnUploads, kind_of};
-ghost use Rattle.mt_codec.specs.Limits.{is_content_type};
+ghost use Rattle.mt_types.specs.Limits.{is_content_type};
 ghost use Rattle.mt_codec.specs.Fields.{body_spelling, path_spelling, text_spelling};
 ghost use Rattle.mt_codec.specs.Spelling.{FitsDocument, FitsFate, FitsLine, FitsPut, IsWithinLimits, archive_spelling, byte_spelling, document_spelling, fate_spelling, flag_number, is_marked, line_spelling, put_spelling, spelling};
 
 use crate::decoding::is_marked;
-use crate::room::room;
 use crate::values::{put_archive, put_document, put_fate, put_lines, put_parts};
 use crate::writing::{put_body, put_content_type, put_durability, put_metadata, put_path};
 use mt_bytes::{put_u8, put_u16, put_u32, put_u64};
 use mt_types::{Archive, Body, Command, Fate, Field, Fields, InputLine, JobDocument, Path, Text};
 use std::alloc::{AllocError, Global};
 
-/// The bytes that spell a command, in one buffer whose room is taken first. The digests of its bodies are
-/// not looked at.
+/// The room that is made at first for a command, in bytes.
+const FIRST_ROOM: usize = 256;
+
+/// The bytes that spell a command. The digests of its bodies are not looked at. It takes 256 bytes of memory, and more
+/// in proportion to their number.
 #[tactic(auto, unfolding(crate::specs::Spelling::spelling))]
 pub fn encode(alloc: Global, command: &Command<Body>) -> Result<Vec<u8>, AllocError>
     requires { IsWithinLimits command.now }
     ensures { IfOk result (λ bytes. bytes.items ≡ spelling command.now) }
 {
-    let mut out = Vec::with_capacity(alloc, room(command))?;
+    let mut out = Vec::with_capacity(alloc, FIRST_ROOM)?;
     put_command(&mut out, command)?;
     Ok(out)
 }

@@ -2,23 +2,18 @@
 ghost use Rattle.std.specs.Prelude.{◌≡◌, length, nat_le, Option, Some, None, IsUtf8, IfOk, if◌then◌else◌};
 ghost use Rattle.std.specs.Int.{w16, w32, w64};
 ghost use Rattle.std.specs.Str.{is_utf8};
-ghost use Rattle.mt_codec.specs.Limits.{is_command_line, is_job_name, is_line_text, is_metadata_name, is_plain_text};
+ghost use Rattle.mt_types.specs.Limits.{is_command_line, is_job_name, is_line_text, is_metadata_name, is_plain_text};
 ghost use Rattle.mt_codec.specs.Reading.{Gives, Makes, Shows, byte_at, counted, named, number_at, optional, sized, tested};
 ghost use Rattle.mt_path.specs.AccountPath.{slashed};
 ghost use Rattle.mt_codec.specs.Readers.{area_numbered, is_short, path_of, body_at, command_line_at, component_at, content_type_at, field_at, metadata_at, path_at, texts};
 
 use crate::error::DecodeError;
-use crate::limits::{LARGEST_METADATA, MOST_METADATA};
 use crate::numbers::{byte, eight, long_piece, short_piece, two};
 use crate::spelled::{Spelled, times};
-use crate::texts::{
-    are_by_name, is_command_line, is_content_type, is_job_name, is_line_text, is_metadata_name,
-    is_metadata_within, is_plain_text,
-};
 use crate::writing::{put_field, put_path, put_text};
 use mt_bytes::Cursor;
 use mt_path::{Area, LONGEST_PATH, is_component};
-use mt_types::{Body, Bytes, Field, Fields, Path, Sequence, Text};
+use mt_types::{Body, Bytes, Field, Fields, LARGEST_METADATA, MOST_METADATA, Path, Sequence, Text, are_by_name, is_command_line, is_content_type, is_job_name, is_line_text, is_metadata_name, is_metadata_within, is_plain_text};
 use std::alloc::{AllocError, Global};
 use std::str;
 

@@ -9,7 +9,6 @@ ghost use Rattle.mt_codec.specs.Reading.{Gives, Shows, byte_at, counted, named, 
 ghost use Rattle.mt_codec.specs.Readers.{archive_at, bad_at, command_line_at, document_at, emit_at, failure_numbered, fate_at, good_at, is_few_assets, is_few_records, is_phases, is_short_stderr, keep_at, kind_at, line_at, path_at, phase_at, record_at};
 
 use crate::error::DecodeError;
-use crate::limits::{LONGEST_STDERR, MOST_ASSETS, MOST_PHASES, MOST_RECORDS};
 use crate::numbers::{byte, bytes, count, eight, four, reducer, two};
 use crate::pieces::{body, command_line, job_name, line_text, path};
 use crate::spelled::{Spelled, put_all, times};
@@ -17,10 +16,7 @@ use crate::writing::{
     put_body, put_command_line, put_init, put_long_text, put_path, put_place, put_reducer, put_text,
 };
 use mt_bytes::{Cursor, put_u8, put_u16, put_u32, put_u64};
-use mt_types::{
-    Archive, Body, Bytes, Fate, InputLine, JobDocument, Lines, PartNumbers, Path, Paths, Phase,
-    PhaseKind, Phases, TaskFailure, TaskRecord, TaskRecords, Text,
-};
+use mt_types::{Archive, Body, Bytes, Fate, InputLine, JobDocument, LONGEST_STDERR, Lines, MOST_ASSETS, MOST_PHASES, MOST_RECORDS, PartNumbers, Path, Paths, Phase, PhaseKind, Phases, TaskFailure, TaskRecord, TaskRecords, Text};
 use std::alloc::{AllocError, Global};
 
 // How a phase cuts its feed.

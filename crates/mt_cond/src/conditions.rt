@@ -3,10 +3,9 @@ ghost use Rattle.std.specs.Prelude.{◌≡◌, IfOk};
 ghost use Rattle.std.specs.Option.{option_copied};
 ghost use Rattle.mt_cond.specs.Conditions.{conditions_of, date_in, expected_by, judged, news_by};
 
-use crate::fields::first_value;
 use crate::tags::TagList;
 use mt_ident::read_http_date;
-use mt_types::{Field, Fields, Object};
+use mt_types::{Field, Fields, Object, first_value};
 use std::alloc::{AllocError, Global};
 
 /// The conditions of a request.

@@ -2,9 +2,8 @@
 ghost use Rattle.std.specs.Prelude.{◌≡◌, ◌<◌, ◌↔◌, length, position, IfSome};
 ghost use Rattle.mt_cond.specs.Range.{Answers, AsksFor, range_between, range_in, range_written, ranged, is_hyphen};
 
-use crate::fields::{first_value, has_field};
 use mt_bytes::read_decimal;
-use mt_types::Fields;
+use mt_types::{Fields, first_value, has_field};
 
 /// A byte range as the field writes it (RFC 9110, section 14.1.2). Places count bytes from 0.
 #[derive(Clone, Copy, Debug, PartialEq, Eq)]

@@ -2,13 +2,12 @@
 ghost use Rattle.std.specs.Prelude.{◌≡◌, ◌==◌, ◌&&◌, not, IfOk};
 ghost use Rattle.std.specs.List.{list_any};
 ghost use Rattle.std.specs.Option.{option_map};
-ghost use Rattle.mt_cond.specs.Fields.{values_of};
+ghost use Rattle.mt_types.specs.Fields.{values_of};
 ghost use Rattle.mt_cond.specs.Tags.{has_any, has_strong, joined, object_tag, tag_list, tag_of, tags_in, unquoted, with_piece};
 
-use crate::blanks::trimmed;
-use crate::fields::is_named;
+use mt_base::trimmed;
 use mt_ident::uuid_number;
-use mt_types::{Field, Sequence};
+use mt_types::{Field, Sequence, is_named};
 use std::alloc::{AllocError, Global};
 
 /// The kind of the identifiers that are etags of objects.

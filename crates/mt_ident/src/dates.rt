@@ -8,9 +8,7 @@ ghost use Rattle.mt_ident.specs.Dates.{IsHttpDate, date_of_day, http_date_text, 
 use httpdate::HttpDate;
 use jiff::ToSpan;
 use jiff::civil::Date;
-
-/// The greatest moment, the last second of the year 9999.
-pub const LAST_MOMENT: u64 = 253_402_300_799;
+use mt_base::LAST_MOMENT;
 
 /// The seconds of a day.
 const DAY: u64 = 86_400;

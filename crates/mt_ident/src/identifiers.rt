@@ -2,14 +2,12 @@
 ghost use Rattle.std.specs.Prelude.{◌≡◌, ◌<◌, ◌^◌, ◌↔◌, ℕ, All, IsAscii, IsTrue, Some};
 ghost use Rattle.mt_ident.specs.Identifiers.{IsKind, IsIdentifier, IsIdentifierByte, identifier_text, identifier_number};
 
+use mt_base::NUMBERS_END;
 use std::str;
 use uuid::Uuid;
 
 /// The greatest kind: 1 is an object's, 2 a job's, 3 an output's and 4 an upload's.
 const LAST_KIND: u8 = 4;
-
-/// Numbers of identifiers are below this.
-const NUMBER_END: u64 = 1 << 62;
 
 /// The variant's bit of RFC 9562, section 4.1, above the number in the last 64 bits.
 const VARIANT: u64 = 1 << 63;
@@ -55,7 +53,7 @@ pub fn uuid_number(kind: u8, text: &[u8]) -> Option<u64>
 fn is_identifier(kind: u8, number: u64, text: &[u8]) -> bool
     ensures { IsTrue result ↔ IsIdentifier kind number text.now }
 {
-    if kind == 0 || kind > LAST_KIND || number >= NUMBER_END {
+    if kind == 0 || kind > LAST_KIND || number >= NUMBERS_END {
         return false;
     }
     uuid_text(kind, number).as_slice() == text

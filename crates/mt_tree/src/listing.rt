@@ -8,6 +8,7 @@ ghost use Rattle.mt_tree.specs.Kept.{in_area, rows_of};
 ghost use Rattle.mt_tree.specs.Walk.{begins, next_name, rows_after, shown};
 
 use crate::kept::{Kept, KeptRow};
+use mt_base::copy_all;
 use mt_types::{Area, Bytes, Duplicate, Entry, Path, Row};
 use std::alloc::{AllocError, Global};
 use std::cmp::Ordering;
@@ -69,7 +70,7 @@ pub fn copy_rows<B: Duplicate>(
         Ordering::Less => Ok(()),
         Ordering::Greater => push_rows(alloc, area, rows.range(..), limit, out),
         Ordering::Equal => {
-            let start = copied(alloc, path.parts())?;
+            let start = copy_all(alloc, path.parts())?;
             let rest = rows.range((Bound::Excluded(&start), Bound::Unbounded));
             push_rows(alloc, area, rest, limit, out)
         }
@@ -113,7 +114,7 @@ fn shown<B: Duplicate>(
     requires { IsPath (record { area = area; parts = path.now }) }
     ensures { IfOk result (λ row. row ≡ shown area path.now entry.now) }
 {
-    let parts = copied(alloc, path)?;
+    let parts = copy_all(alloc, path)?;
     Ok(Row {
         path: Path::from_parts(area, parts),
         entry: entry.copy(alloc)?,
@@ -133,17 +134,7 @@ fn next_below(alloc: Global, dir: &[Bytes], name: &Bytes) -> Result<Vec<Bytes>, 
 fn below(alloc: Global, dir: &[Bytes], name: Vec<u8>) -> Result<Vec<Bytes>, AllocError>
     ensures { IfOk result (λ v. v.items ≡ dir.now ++ name.items ∷ []) }
 {
-    let mut path = copied(alloc, dir)?;
+    let mut path = copy_all(alloc, dir)?;
     path.push(Bytes::from_vec(name))?;
     Ok(path)
-}
-
-fn copied(alloc: Global, parts: &[Bytes]) -> Result<Vec<Bytes>, AllocError>
-    ensures { IfOk result (λ v. v.items ≡ parts.now) }
-{
-    let mut copies = Vec::with_capacity(alloc, parts.len())?;
-    for part in parts {
-        copies.push(part.copy(alloc)?)?;
-    }
-    Ok(copies)
 }

@@ -4,7 +4,7 @@ ghost use Rattle.mt_model.specs.Listing.{is_from, listing, name_of, result_set_s
 ghost use Rattle.mt_model.specs.Rows.{is_child, row_of};
 ghost use Rattle.mt_tree.specs.Plain.{pairs};
 
-use mt_types::{Duplicate, Path, Row, Rows, Sequence};
+use mt_types::{Duplicate, Path, Row, RowList, Sequence};
 use std::alloc::{AllocError, Global};
 
 /// What [`crate::Tree::list`] gives of a tree that has these rows.
@@ -14,7 +14,7 @@ pub fn list<B: Duplicate>(
     dir: &Path,
     marker: &[u8],
     limit: usize,
-) -> Result<Rows<B>, AllocError>
+) -> Result<RowList<B>, AllocError>
     ensures { IfOk result (λ page. page ≡ map row_of (listing (pairs rows.now) dir.now marker.now limit)) }
 {
     let mut page = Sequence::new(alloc);
