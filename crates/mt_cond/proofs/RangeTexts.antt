@@ -16,7 +16,7 @@ use Rattle.mt_types.specs.declared.object.Field.{Field}
 use Rattle.mt_cond.proofs.Found.{option_map-Some}
 use Rattle.mt_cond.specs.declared.range.Range.{Range}
 use Rattle.mt_cond.specs.declared.range.Range.TheVariants.{Between, From, Last}
-use Rattle.mt_cond.specs.Fields.{first_value, is_named}
+use Rattle.mt_types.specs.Fields.{first_value, is_named}
 use Rattle.mt_cond.specs.Range.{AsksFor, Writes, in_order, is_hyphen, range_at, range_between, range_cut_at, range_in, range_text, range_written}
 
 -- what has a number is a decimal

@@ -4,7 +4,7 @@ use Rattle.std.specs.Option.{option_and_then, option_map}
 use Rattle.std.specs.List.{list_any, starts_with}
 use Rattle.mt_bytes.specs.Decimals.{decimal_number}
 use Rattle.mt_types.specs.declared.object.Field.{Field}
-use Rattle.mt_cond.specs.Fields.{first_value, is_named}
+use Rattle.mt_types.specs.Fields.{first_value, is_named}
 use Rattle.mt_cond.specs.declared.range.Range.{Range}
 use Rattle.mt_cond.specs.declared.range.Range.TheVariants.{Between, From, Last}
 use Rattle.mt_cond.specs.declared.range.Ranged.{Ranged}

@@ -5,7 +5,8 @@ ghost use Rattle.mt_ident.specs.declared.dates.CivilDate.{CivilDate};
 ghost use Rattle.mt_ident.specs.Dates.{date_of_day};
 ghost use Rattle.mt_ident.specs.Identifiers.{IsKind};
 
-use crate::dates::{LAST_MOMENT, http_date, read_http_date};
+use crate::dates::{http_date, read_http_date};
+use mt_base::LAST_MOMENT;
 use crate::digests::{md5_read, md5_text};
 use crate::identifiers::{uuid_number, uuid_text};
 

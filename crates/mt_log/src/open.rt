@@ -8,7 +8,7 @@ ghost use Rattle.mt_log.specs.LogState.{IsOpened, Settled, told};
 ghost use Rattle.mt_log.specs.Scan.{Answers};
 
 use crate::choose::choose;
-use crate::log::{Log, MAGIC};
+use crate::log::{Log, MAGIC_LEN};
 use crate::new_log::{make, settle};
 use crate::refusal::OpenError;
 use crate::scan::scan;
@@ -56,7 +56,7 @@ fn begin<D: Disk>(disk: &mut D, limit: u64) -> Result<Log, OpenError>
     make(disk)?;
     Ok(Log {
         file: FileNo::One,
-        gate: MAGIC,
+        gate: MAGIC_LEN,
         limit,
         closed: false,
         is_old: false,

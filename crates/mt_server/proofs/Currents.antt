@@ -7,7 +7,8 @@ use Rattle.mt_log.specs.LogImage.{IsBeforeOrAfter, SameLog, log_size, payloads, 
 use Rattle.mt_log.specs.LogState.{size_with, told, with_payload, with_record}
 use Rattle.mt_server.specs.Answer.{fits}
 use Rattle.mt_server.specs.EngineState.{Accepts, AllHave, AllHaveEither, EngineState, HasHistory, IsCurrent, Writes, has_room, told_images}
-use Rattle.mt_server.specs.Store.{History, IsPut, State, first_state, most_commands, payload_of, payloads_of_history, step}
+use Rattle.mt_server.specs.Store.{History, IsPut, State, first_state, payload_of, payloads_of_history, step}
+use Rattle.mt_types.specs.declared.limits.TheConstants.{MOST_COMMANDS}
 use Rattle.mt_server.specs.declared.accepted.Accepted.{Accepted}
 use Rattle.mt_server.specs.declared.accepted.Accepted.TheVariants as accepted
 use Rattle.mt_server.specs.declared.put.Put.{Put}
@@ -19,8 +20,8 @@ pub room_is : (tells : Bool) (seen : Option Files) (engine : EngineState) (h : H
 room_is tells seen engine h put current =
     let count : engine.state.count ≡ length h = ap (λ (s : State). s.count) current.state ∙ count_of_replay h in
     let size : size_with engine.log (length (payload_of put)) ≡ log_size (payloads_of_history h) + 21 + length (payload_of put) = omega (arith, current.size) in
-    ap (λ (n : ℕ). nat_lt n most_commands && nat_le (size_with engine.log (length (payload_of put))) engine.log.limit) count
-    ∙ ap (λ (n : ℕ). nat_lt (length h) most_commands && nat_le n engine.log.limit) size
+    ap (λ (n : ℕ). nat_lt n MOST_COMMANDS && nat_le (size_with engine.log (length (payload_of put))) engine.log.limit) count
+    ∙ ap (λ (n : ℕ). nat_lt (length h) MOST_COMMANDS && nat_le n engine.log.limit) size
 
 -- a log with one payload more
 grown : (old new : Option Files) (payload : List ℕ) (ps : List (List ℕ)) → told new ≡ with_payload payload (told old) → ((files : Files) → old ≡ Some files → payloads_of files ≡ ps) → (files : Files) → new ≡ Some files → payloads_of files ≡ ps ++ payload ∷ []

@@ -5,7 +5,8 @@ use Rattle.mt_disk.specs.Files.{Files}
 use Rattle.mt_log.specs.LogImage.{IsBeforeOrAfter, log_size, payloads, payloads_of}
 use Rattle.mt_log.specs.LogState.{LogState, size_with, told, with_payload, with_record}
 use Rattle.mt_server.specs.Answer.{fits}
-use Rattle.mt_server.specs.Store.{ArePuts, History, State, most_commands, replay, payloads_of_history}
+use Rattle.mt_server.specs.Store.{ArePuts, History, State, replay, payloads_of_history}
+use Rattle.mt_types.specs.declared.limits.TheConstants.{MOST_COMMANDS}
 use Rattle.mt_server.specs.declared.accepted.Accepted.{Accepted}
 use Rattle.mt_server.specs.declared.accepted.Accepted.TheVariants as accepted
 use Rattle.mt_server.specs.declared.put.Put.{Put}
@@ -16,7 +17,7 @@ pub record EngineState : Type 0 where
 
 -- the log lets in one command more, whose payload has so many bytes
 abbrev pub has_room : EngineState → ℕ → Bool
-has_room engine payload = nat_lt engine.state.count most_commands && nat_le (size_with engine.log payload) engine.log.limit
+has_room engine payload = nat_lt engine.state.count MOST_COMMANDS && nat_le (size_with engine.log payload) engine.log.limit
 
 -- the files' log has this history
 pub record HasHistory (files : Files) (h : History) : Type 0 where

@@ -7,7 +7,7 @@ ghost use Rattle.mt_server.specs.EngineState.{IsCurrent, Accepts, Writes, has_ro
 ghost use Rattle.std.specs.Ordering.{nat_cmp};
 ghost use Rattle.std.specs.Cmp.Lexicographic.{slice_cmp};
 ghost use Rattle.std.specs.BTreeMap.{insert_entry};
-ghost use Rattle.mt_server.specs.Store.{History, IsPut, most_commands, object_at, step};
+ghost use Rattle.mt_server.specs.Store.{History, IsPut, object_at, step};
 
 use crate::accepted::Accepted;
 use crate::object::Object;
@@ -16,11 +16,9 @@ use crate::types::Engine;
 use mt_base::Bytes;
 use mt_disk::Disk;
 use mt_log::AppendError;
+use mt_types::{MOST_COMMANDS, NUMBERS_A_COMMAND};
 use std::alloc::{AllocError, Global};
 use std::collections::BTreeMap;
-
-/// The largest number of commands of an account.
-pub(crate) const MOST_COMMANDS: u64 = (1 << 50) - 1;
 
 impl Engine {
     /// The number of commands so far.
@@ -47,13 +45,13 @@ impl Engine {
 
     /// The state after a put. Where memory is wanted it stays.
     pub(crate) fn change(&mut self, put: Put) -> Result<(), AllocError>
-        requires room { self.old.state.count < most_commands }
+        requires room { self.old.state.count < MOST_COMMANDS }
         requires put { IsPut put }
         ensures changed { OnOk result (self.new ≡ record self.old { state = step self.old.state put }) }
         ensures err { OnErr result (self.new ≡ self.old) }
     {
         let object = Object {
-            number: self.count * 4096,
+            number: self.count * NUMBERS_A_COMMAND,
             content_type: put.content_type,
             body: put.body,
             mtime: put.moment,
