@@ -1,0 +1,4 @@
+pub mod Objects
+pub mod PhaseLists
+pub mod Faults
+pub mod NoFloats

@@ -1,0 +1,16 @@
+//! Job documents: what a job is asked to do, as JSON (RFC 8259).
+//!
+//! - `reading`: a document is read. `phases`: its phases. `fields`: what stands in a phase.
+//! - `printing`: its phases as they are shown.
+//! - `error`: why a document is refused.
+#![tactic(auto)]
+
+mod error;
+mod fields;
+mod phases;
+mod printing;
+mod reading;
+
+pub use error::InvalidJob;
+pub use printing::{phases_value, print};
+pub use reading::read;
