@@ -1,0 +1,33 @@
+//! `job_rows`: the calls of the crates that jobs stand on, row by row. Its stored run is their table of cases.
+//!
+//! - `documents`: `mt_jobdoc`. `lines`: `mt_split`.
+#![tactic(auto)]
+
+mod documents;
+mod lines;
+
+use mt_rows::{Row, Rows, Stop, print_table};
+use std::alloc::Global;
+use std::io;
+
+#[derive(Drop)]
+struct Jobs;
+
+impl Rows for Jobs {
+    fn answer(
+        &mut self,
+        alloc: Global,
+        line: &str,
+        row: &Row,
+        out: &mut String,
+    ) -> Result<(), Stop> {
+        if documents::answer(alloc, line, row, out)? || lines::answer(alloc, row, out)? {
+            return Ok(());
+        }
+        Err(Stop::NoSuchRow)
+    }
+}
+
+fn main(rt: HostRuntime) -> io::Result<()> {
+    print_table(&rt, &mut Jobs)
+}

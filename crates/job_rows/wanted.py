@@ -1,0 +1,268 @@
+#!/usr/bin/env python3
+"""Prints the table of job_rows with the wanted answers: documents are judged by Python's json, lines by its hashlib."""
+import hashlib
+import json
+import random
+
+
+def escaped(data):
+    out = []
+    for b in data:
+        out.append({9: "\\t", 10: "\\n", 13: "\\r", 92: "\\x5c"}.get(b) or (chr(b) if 32 <= b <= 126 else f"\\x{b:02x}"))
+    return "".join(out)
+
+
+def answered(data):
+    """Bytes of an answer: a blank at the end is shown."""
+    text = escaped(data)
+    return text[:-1] + "\\s" if text.endswith(" ") else text
+
+
+def word(data):
+    return escaped(data).replace(" ", "\\s") or "\\e"
+
+
+def row(call, answer):
+    print(f"{call:<48} => {answer}" if answer else f"{call}")
+
+
+class Whole(int):
+    """A number without sign, point and exponent."""
+
+
+class Refused(Exception):
+    pass
+
+
+def number(text):
+    if abs(float(text)) == float("inf"):
+        raise ValueError("too large")
+    return Whole(text) if text.isdigit() and int(text) < 2**64 else float(text)
+
+
+def refuse(text):
+    raise ValueError(text)
+
+
+def depth(value):
+    if isinstance(value, dict):
+        return 1 + max(map(depth, value.values()), default=0)
+    if isinstance(value, list):
+        return 1 + max(map(depth, value), default=0)
+    return 0
+
+
+def read_json(data):
+    try:
+        value = json.loads(data.decode("utf-8"), parse_int=number, parse_float=number, parse_constant=refuse)
+        json.dumps(value, ensure_ascii=False).encode("utf-8")  # a lone surrogate is no text
+    except (ValueError, RecursionError):
+        return None
+    return value if depth(value) <= 127 else None
+
+
+def is_component(name):
+    return 1 <= len(name.encode()) <= 255 and name not in (".", "..") and all(ord(c) >= 32 and c not in "/\x7f" for c in name)
+
+
+def path(text):
+    """The path that a text names, printed, or None."""
+    if not (text.startswith("/") or text.startswith("~~/")):
+        return None
+    pieces = [it for it in text.split("/") if it]
+    if not pieces:
+        return None
+    if pieces[0] == "~~":
+        pieces[0] = "l"
+    if len("".join("/" + it for it in pieces[1:]).encode()) > 1024 or not all(map(is_component, pieces[2:])):
+        return None
+    if pieces[0] != "l" or len(pieces) < 2 or pieces[1] not in ("stor", "public", "jobs"):
+        return None
+    return "/" + "/".join(pieces)
+
+
+def is_command(text):
+    return isinstance(text, str) and 1 <= len(text.encode()) <= 65536 and "\0" not in text
+
+
+def phase(k, value):
+    bad = Refused(f"BadPhase({k})")
+    if not isinstance(value, dict):
+        raise bad
+    kind = value.get("type", "map")
+    init = value.get("init", "")
+    assets = value.get("assets", [])
+    if kind not in ("map", "reduce") or not is_command(value.get("exec")) or not (init == "" or is_command(init)):
+        raise bad
+    if not isinstance(assets, list) or len(assets) > 64:
+        raise bad
+    names = [path(it) if isinstance(it, str) else None for it in assets]
+    if None in names:
+        raise bad
+    text = "; map "
+    if kind == "reduce":
+        count = value.get("count", Whole(1))
+        if not isinstance(count, Whole) or not 1 <= count <= 1024:
+            raise Refused(f"BadCount({k})")
+        text = f"; reduce {int(count)} "
+    text += escaped(value["exec"].encode()) + (", init " + escaped(init.encode()) if init else "")
+    return text + "".join(", " + escaped(it.encode()) for it in names)
+
+
+def judged(data):
+    value = read_json(data)
+    if not isinstance(value, dict):
+        return "NotJson"
+    phases = value.get("phases")
+    if not isinstance(phases, list) or not phases:
+        return "NoPhases"
+    if len(phases) > 16:
+        return "TooManyPhases"
+    name = value.get("name", "")
+    try:
+        return "job " + escaped((name if isinstance(name, str) else "").encode()) + "".join(phase(k, it) for k, it in enumerate(phases))
+    except Refused as why:
+        return str(why)
+
+
+def printed(data):
+    out = []
+    for value in read_json(data)["phases"]:
+        kind = value.get("type", "map")
+        shown = {"assets": [path(it) for it in value.get("assets", [])], "exec": value["exec"], "type": kind}
+        if kind == "reduce":
+            shown["count"] = int(value.get("count", 1))
+        if value.get("init"):
+            shown["init"] = value["init"]
+        out.append(shown)
+    return json.dumps(out, sort_keys=True, separators=(",", ":"), ensure_ascii=False)
+
+
+def document(text):
+    data = text.encode()
+    plain = all(32 <= b <= 126 for b in data) and "=>" not in text and "\\" not in text and text.strip() == text and text
+    call = f"document {text}" if plain else f"document-bytes {word(data)}"
+    answer = judged(data)
+    row(call, answer[:-1] + "\\s" if answer.endswith(" ") else answer)
+
+
+BY_HAND = [
+    '{"phases":[{"exec":"cat"}]}', '{"name":"count","phases":[{"exec":"wc"},{"type":"reduce","exec":"sort","count":3}]}',
+    '', ' ', 'null', '[]', '"x"', '1', '{', '{}', '{"phases":null}', '{"phases":{}}', '{"phases":[]}', '{"phases":"x"}', '{"phase":[{"exec":"x"}]}',
+    '{"phases":[1]}', '{"phases":[null]}', '{"phases":[[]]}', '{"phases":[{}]}', '{"phases":[{"exec":null}]}', '{"phases":[{"exec":""}]}',
+    '{"phases":[{"exec":7}]}', '{"phases":[{"exec":"a\\u0000b"}]}', '{"phases":[{"exec":"x","type":null}]}', '{"phases":[{"exec":"x","type":"Map"}]}',
+    '{"phases":[{"exec":"x","type":"map","count":0}]}', '{"phases":[{"exec":"x","type":"reduce"}]}', '{"phases":[{"exec":"x","type":"reduce","count":0}]}',
+    '{"phases":[{"exec":"x","type":"reduce","count":1}]}', '{"phases":[{"exec":"x","type":"reduce","count":1024}]}',
+    '{"phases":[{"exec":"x","type":"reduce","count":1025}]}', '{"phases":[{"exec":"x","type":"reduce","count":2.0}]}',
+    '{"phases":[{"exec":"x","type":"reduce","count":2e0}]}', '{"phases":[{"exec":"x","type":"reduce","count":-1}]}',
+    '{"phases":[{"exec":"x","type":"reduce","count":-0}]}', '{"phases":[{"exec":"x","type":"reduce","count":"3"}]}',
+    '{"phases":[{"exec":"x","type":"reduce","count":null}]}', '{"phases":[{"exec":"x","type":"reduce","count":18446744073709551616}]}',
+    '{"phases":[{"exec":"x","type":"reduce","count":4294967297}]}', '{"phases":[{"exec":"x","count":1e400}]}', '{"phases":[{"exec":"x","count":01}]}',
+    '{"phases":[{"exec":"x","init":""}]}', '{"phases":[{"exec":"x","init":"y z"}]}', '{"phases":[{"exec":"x","init":null}]}',
+    '{"phases":[{"exec":"x","init":"\\u0000"}]}', '{"phases":[{"exec":"x","assets":null}]}', '{"phases":[{"exec":"x","assets":[]}]}',
+    '{"phases":[{"exec":"x","assets":["/l/stor/a","~~/public/b//c"]}]}', '{"phases":[{"exec":"x","assets":["/m/stor/a"]}]}',
+    '{"phases":[{"exec":"x","assets":["l/stor/a"]}]}', '{"phases":[{"exec":"x","assets":["/l/other/a"]}]}', '{"phases":[{"exec":"x","assets":["/l/stor/%41"]}]}',
+    '{"phases":[{"exec":"x","assets":["/l/stor/.."]}]}', '{"phases":[{"exec":"x","assets":[1]}]}', '{"phases":[{"exec":"x","assets":"/l/stor/a"}]}',
+    '{"phases":[{"exec":"x","assets":["/l/stor"]}]}', '{"phases":[{"exec":"x","type":"reduce","count":0,"init":7}]}',
+    '{"phases":[{"exec":"x"},{"exec":"","type":"reduce","count":0}]}', '{"phases":[{"exec":"x","type":"reduce","count":0},{}]}',
+    '{"phases":[{"exec":"a","exec":"b"}]}', '{"phases":[{"exec":"x"}],"phases":[]}', '{"name":7,"phases":[{"exec":"x"}]}', '{"name":null,"phases":[{"exec":"x"}]}',
+    '{"name":"a b","phases":[{"exec":"x"}],"more":[true,false,{"a":-1.5e3}]}', '\ufeff{"phases":[{"exec":"x"}]}', ' {"phases":[{"exec":"x"}]} ',
+    '{"phases":[{"exec":"x"},]}', '{"phases":[{"exec":"x"}]} {}', "{'phases':[{'exec':'x'}]}", '{"phases":[{"exec":"x\ty"}]}', '{"phases":[{"exec":"x\\ty"}]}',
+    '{"phases":[{"exec":"\\u00e9\\ud83d\\ude00"}]}', '{"phases":[{"exec":"\\ud83d"}]}', '{"phases":[{"exec":"é"}]}', '{"phases":[{"exec":"\\q"}]}',
+    '{"phases":[{"exec":"a\\/b\\"c\\\\d"}]}', '{"phases":[{"exec":NaN}]}', '{"phases":[{"exec":"x","count":Infinity}]}', '{"phases":[{"exec":"x","count":+1}]}',
+]
+
+
+def generated(count):
+    """Documents of parts that are chosen, with a seed."""
+    pick = random.Random(2026).choice
+    for _ in range(count):
+        phases = []
+        for _ in range(pick([1, 1, 1, 2, 3])):
+            fields = {"exec": pick(['"x"', '"x"', '"x"', '"wc -l"', '""', 'null', '[]'])}
+            if pick([0, 1]):
+                fields["type"] = pick(['"map"', '"reduce"', '"reduce"', '"reduce"', '"filter"', 'true'])
+            if pick([0, 1]):
+                fields["count"] = pick(["1", "2", "16", "1024", "0", "1025", "1.0", "1E1", "-2", '"1"', "[]", "99999999999999999999"])
+            if pick([0, 0, 1]):
+                fields["init"] = pick(['"y"', '""', "0", "null", '"a b"'])
+            if pick([0, 0, 1]):
+                fields["assets"] = pick(["[]", '["/l/stor/a"]', '["~~/stor/a","/l/jobs/b"]', '["/l"]', '[""]', "{}", '["/l/stor/a",null]'])
+            keys = sorted(fields, key=lambda _: pick(range(9)))
+            phases.append(pick(["{%s}"] * 9 + ["[%s]", "%s"]) % ",".join(f'"{it}":{fields[it]}' for it in keys))
+        name = pick(["", "", '"name":"n",', '"name":[],', '"other":0,'])
+        yield "{%s%s:[%s]}" % (name, pick(['"phases"'] * 9 + ["phases"]), pick([",", ",", ","]).join(phases))
+
+
+def route(key, n):
+    return int.from_bytes(hashlib.md5(key).digest()[:4], "big") % n
+
+
+def lines(text):
+    return text.splitlines(keepends=True) if b"\r" not in text else [it + b"\n" for it in text.split(b"\n")[:-1]] + ([text.split(b"\n")[-1]] if text.split(b"\n")[-1] else [])
+
+
+def key(line, delimiter=None, numbers=()):
+    content = line[:-1] if line.endswith(b"\n") else line
+    if delimiter is None:
+        return content
+    fields = content.split(delimiter)
+    return delimiter.join(fields[n - 1] if 1 <= n <= len(fields) else b"" for n in numbers)
+
+
+def key_row(line, delimiter=None, numbers=()):
+    words = [] if delimiter is None else [word(delimiter), *map(str, numbers)]
+    row(" ".join(["key", word(line), *words]), answered(key(line, delimiter, numbers)))
+
+
+def split_row(n, text, delimiter=None, numbers=()):
+    words = [] if delimiter is None else [word(delimiter), *map(str, numbers)]
+    parts = [b"".join(it for it in lines(text) if route(key(it, delimiter, numbers), n) == r) for r in range(n)]
+    answer = " | ".join(escaped(it) for it in parts)
+    row(" ".join(["split", str(n), word(text), *words]), answer[:-1] + "\\s" if answer.endswith(" ") else answer)
+
+
+def main():
+    print("# Job documents (mt_jobdoc), judged by Python's json. Names of assets are those of the login l.")
+    for text in BY_HAND:
+        document(text)
+    print("\n# Seventeen phases, and sixteen; assets and command lines at their limits.")
+    for count in (16, 17):
+        document('{"phases":[%s]}' % ",".join(['{"exec":"x"}'] * count))
+    for count in (64, 65):
+        document('{"phases":[{"exec":"x","assets":[%s]}]}' % ",".join(['"/l/stor/a"'] * count))
+    for count in (65536, 65537):
+        text = '{"phases":[{"exec":"%s"}]}'
+        shown = text.replace("%s", f"\\*{count}.x")
+        row(f"document-bytes {shown}", judged((text % ("x" * count)).encode()) if count > 65536 else "job ; map " + "x" * count)
+    print("\n# Lists in lists, below a phase in a list in an object: 127 deep in all, and deeper.")
+    for count in (1, 124, 125, 200):
+        row(f"nested {count}", judged(('{"phases":[{"exec":"x","more":' + "[" * count + "]" * count + "}]}").encode()))
+    print("\n# Bytes that are no text.")
+    for data in (b'{"phases":[{"exec":"\xff"}]}', b'{"phases":[{"exec":"\xc0\x80"}]}', b'\xff'):
+        row(f"document-bytes {word(data)}", "NotJson")
+    print("\n# Documents of chosen parts.")
+    for text in generated(120):
+        document(text)
+    print("\n# Phases as they are printed, keys in the order of their bytes, by Python's json.")
+    for text in ('{"phases":[{"exec":"cat"}]}', '{"phases":[{"exec":"cat","type":"reduce"},{"init":"i","type":"map","exec":"e"}]}',
+                 '{"phases":[{"assets":["~~/stor//a","/l/public/b c"],"exec":"x","init":"i","type":"reduce","count":12}]}'):
+        row(f"print {text}", printed(text.encode()))
+    print("\n# The reducer of a key: the first four bytes of its MD5, by Python's hashlib.")
+    for text, n in ((b"a", 8), (b"b", 8), (b"c", 8), (b"", 1), (b"", 7), (b"a", 1), (b"a", 1024), (b"message digest", 4294967295), (b"\x00\xff", 10)):
+        row(f"route {word(text)} {n}", str(route(text, n)))
+    print("\n# The key of a line: one line feed is left out, and no carriage return.")
+    for line in (b"a\n", b"a", b"", b"\n", b"a\r\n", b"a\n\n", b" a \n"):
+        key_row(line)
+    for line, delimiter, numbers in ((b"a\tb\tc\n", b"\t", (1,)), (b"a\tb\tc\n", b"\t", (3, 1)), (b"a\tb\tc\n", b"\t", (2, 2)), (b"a,b\n", b",", (3,)),
+                                     (b"a,b\n", b",", (3, 2)), (b"a,b\n", b",", (0, 1)), (b",\n", b",", (1, 2)), (b"", b",", (1,)), (b"a\n", b"\n", (1, 2)),
+                                     (b"a\nb\n", b"\n", (2,)), (b"a,b,c", b",", (1, 2, 3)), (b"a,b", b",", ())):
+        key_row(line, delimiter, numbers)
+    print("\n# Lines in their order, a last one without its line feed.")
+    for n, text in ((1, b""), (3, b""), (1, b"b\na\nb"), (8, b"a\nb\nc\n"), (3, b"a\nb\nc\nb\na"), (2, b"\n\n\n"), (4, b"x 1\ny 2\nx 3"), (2, b"a\r\nb\r\n")):
+        split_row(n, text)
+    for n, text, delimiter, numbers in ((4, b"x 1\ny 2\nx 3", b" ", (1,)), (4, b"x 1\ny 2\nx 3", b" ", (2,)), (3, b"k,1\nk,2\nm,1\nk,3", b",", (1,)), (2, b"a\nb\n", b",", (9,))):
+        split_row(n, text, delimiter, numbers)
+
+
+main()
