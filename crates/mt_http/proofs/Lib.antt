@@ -12,6 +12,7 @@ pub mod LocalBodies
 pub mod MessageLaws
 pub mod Places
 pub mod ReadBody
+pub mod ReadChunks
 pub mod ReadHead
 pub mod ReadMessage
 pub mod ReplyLines
