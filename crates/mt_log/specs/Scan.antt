@@ -18,9 +18,9 @@ fault_of refusal.Disk = None
 fault_of refusal.Memory = None
 
 -- an opening answers what reading gives: Ok only where the log can be read, and a refusal that names a fault only at that fault
-abbrev pub Answers : {T : Type 0} → Result T OpenError → Result (List (List ℕ)) LogFault → Type 0
-Answers (Ok log) read = IsOk read
-Answers (Err refused) read = (fault : LogFault) → fault_of refused ≡ Some fault → read ≡ Err fault
+abbrev pub OpensAs : {T : Type 0} → Result T OpenError → Result (List (List ℕ)) LogFault → Type 0
+OpensAs (Ok log) read = IsOk read
+OpensAs (Err refused) read = (fault : LogFault) → fault_of refused ≡ Some fault → read ≡ Err fault
 
 -- what is read of a file: its length, the place from which on nothing was taken yet, and the bytes there that are in memory
 pub record WindowState : Type 0 where

@@ -26,7 +26,7 @@ pub enum OpenError {
     },
     /// The disk has failed. Its log has the payloads of before.
     Disk,
-    /// Memory was wanted.
+    /// Out of memory.
     Memory,
 }
 

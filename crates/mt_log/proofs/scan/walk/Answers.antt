@@ -24,6 +24,7 @@ records-preserved g c =
       same = window_on first was mid now one two three;
       window = c.in_ok-pass_record.ensures.window;
       read = reads_on d.seen d.may_leave d.moment d.left_since _ _ _ (reads_on d.seen d.may_leave d.moment d.left_since _ _ _ c.records.invariant.read c.is_open.ensures.read) c.pass_record.ensures.read;
+      later = omega (arith, c.records.invariant.later, ap (λ (w : WindowState). w.at) two, c.in_ok-pass_record.ensures.moved.0);
       faults = omega (arith, c.records.invariant.faults, c.is_open.ensures.faults, c.pass_record.ensures.faults);
       walked = λ files is old front.
           let bytes = contents files first.file in
