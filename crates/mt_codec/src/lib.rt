@@ -29,8 +29,3 @@ pub use limits::{
     MOST_METADATA, MOST_PHASES, MOST_RECORDS, MOST_REDUCERS, NUMBERS_A_COMMAND, NUMBERS_END,
 };
 pub use piece::is_piece;
-
-#[cfg(test)]
-mod tests;
-#[cfg(test)]
-mod vectors;

@@ -32,6 +32,3 @@ pub use task::{
     Asset, Assets, Fate, Files, Made, Raw, RecordFile, Run, TaskFailure, TaskRecord, TaskRecords,
 };
 pub use upload::{PartNumbers, PartRow, PartRows, Stage, Upload, UploadList};
-
-#[cfg(test)]
-mod tests;
