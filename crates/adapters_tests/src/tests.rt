@@ -1,5 +1,5 @@
 //! The adapters over real files, and over readers, writers and clocks that fail.
-use crate::*;
+use mt_adapters::{Counted, FileDisk, StdSink, StdSource, SystemClock};
 use mt_disk::{Disk, DiskFault, FileNo};
 use mt_edge::{Clock, LAST_MOMENT, ReadStep, Source, write_all};
 use std::alloc::Global;
