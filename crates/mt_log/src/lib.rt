@@ -30,6 +30,3 @@ pub use log::Log;
 pub use read::ReadFault;
 pub use refusal::OpenError;
 pub use run::Run;
-
-#[cfg(test)]
-mod tests;
