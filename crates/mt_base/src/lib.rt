@@ -15,6 +15,3 @@ pub use bytes::Bytes;
 pub use duplicate::Duplicate;
 pub use sequence::Sequence;
 pub use text::Text;
-
-#[cfg(test)]
-mod tests;

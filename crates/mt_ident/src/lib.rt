@@ -15,6 +15,3 @@ pub use dates::{LAST_MOMENT, http_date, iso_time, read_http_date};
 pub use digests::{md5_of, md5_read, md5_text};
 pub use identifiers::{uuid_number, uuid_text};
 pub use md5::{Digest, Md5};
-
-#[cfg(test)]
-mod tests;
