@@ -500,6 +500,8 @@ def limits(t):
     row("first", 8)
     row("next 8 3", 8 + 21 + 3)
     row("next 32 0", 32 + 21)
+    row("next 53 5", 53 + 21 + 5)
+    row("next 79 0", "past")
     t.read_at(8)
     t.read_at(32)
     t.read_at(53)

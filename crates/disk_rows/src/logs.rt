@@ -131,7 +131,10 @@ pub fn put_payloads(
         if len >= MOST {
             return Err(Stop::NoSuchRow);
         }
-        place = log.next(place, len);
+        place = match log.next(place, len) {
+            Some(next) => next,
+            None => return Err(Stop::NoSuchRow),
+        };
     }
     Ok(())
 }
@@ -143,7 +146,10 @@ fn put_next(log: &Log, row: &Row, out: &mut String) -> Result<(), Stop> {
     if place >= MOST || len >= MOST {
         return Err(Stop::NoSuchRow);
     }
-    write!(out, "{}", log.next(place, len))?;
+    match log.next(place, len) {
+        Some(next) => write!(out, "{next}")?,
+        None => out.push_str("past")?,
+    }
     Ok(())
 }
 
