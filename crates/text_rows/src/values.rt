@@ -3,6 +3,9 @@ use mt_base::{Bytes, Duplicate, Sequence, Text};
 use mt_rows::{Row, Stop, put_escaped};
 use std::alloc::{AllocError, Global};
 
+/// The word between two lists.
+const BETWEEN: &[u8] = b"and";
+
 /// Answers a row of this module; `false` for another row.
 pub fn answer(alloc: Global, row: &Row, out: &mut String) -> Result<bool, Stop> {
     match row.call() {
@@ -105,9 +108,6 @@ fn put_two_values(alloc: Global, row: &Row, out: &mut String) -> Result<(), Stop
     write!(out, "bytes {:?}, equal {}", one.cmp(&two), one == two)?;
     Ok(())
 }
-
-// The word between two lists.
-const BETWEEN: &[u8] = b"and";
 
 // The place of the word between two lists.
 fn place_between(row: &Row) -> Result<usize, Stop> {
