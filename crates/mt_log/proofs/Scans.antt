@@ -17,7 +17,7 @@ use Rattle.mt_log.specs.LogImage.{Damaged, LogFault, NotALog, OldVersion, Short,
 use Rattle.mt_log.specs.Scan.{OpensAs, EndsWith, GateIs, HasRecord, IsHead, IsOpenGate, Walked, WindowState, fault_of}
 use Rattle.mt_log.proofs.Appended.{fit-append}
 use Rattle.mt_log.proofs.Records.{length-head_of}
-use Rattle.mt_log.specs.declared.refusal.OpenError.{OpenError}
+use Rattle.mt_log.specs.declared.open_error.OpenError.{OpenError}
 use Rattle.mt_log.proofs.Walks.{ends_fault, ends_none, read_by}
 
 -- the parts of what is read

@@ -4,8 +4,8 @@ use Rattle.std.specs.Int.{w32, to_be_bytes}
 use Rattle.std.specs.List.{flat_map}
 use Rattle.mt_disk.specs.declared.disk.FileNo.{FileNo}
 use Rattle.mt_disk.specs.Files.{Files, contents}
-use Rattle.mt_log.specs.declared.refusal.OpenError.{OpenError}
-use Rattle.mt_log.specs.declared.refusal.OpenError.TheVariants as refusal
+use Rattle.mt_log.specs.declared.open_error.OpenError.{OpenError}
+use Rattle.mt_log.specs.declared.open_error.OpenError.TheVariants as refusal
 use Rattle.mt_log.specs.LogImage.{AllFit, Holds, LogFault, NotALog, OldVersion, Damaged, Short, magic_of, payloads_from, record_head, record_of}
 
 -- the fault of a log that a refusal names

@@ -9,7 +9,7 @@ ghost use Rattle.mt_log.specs.LogImage.{LogFault, log_by, magic_of};
 ghost use Rattle.mt_log.specs.Scan.{EndsWith, GateIs, HasLog, HasRecord, IsHead, IsOpenGate, IsWindow, StopsAt, Walked, fault_of, rest_at, OpensAs};
 
 use crate::log::{EMPTY_LEN, MAGIC_LEN, RECORD_HEAD};
-use crate::refusal::OpenError;
+use crate::open_error::OpenError;
 use crate::window::Window;
 use mt_disk::{Disk, DiskFault, FileNo};
 use std::alloc::Global;

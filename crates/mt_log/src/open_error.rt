@@ -1,6 +1,6 @@
 //! Why a log isn't opened.
 ghost use Rattle.std.specs.Prelude.{◌≡◌};
-ghost use Rattle.mt_log.specs.declared.refusal.OpenError.TheVariants.{Disk, Memory};
+ghost use Rattle.mt_log.specs.declared.open_error.OpenError.TheVariants.{Disk, Memory};
 
 use mt_disk::DiskFault;
 use std::alloc::AllocError;
