@@ -3,6 +3,7 @@ pub mod BodyReadings
 pub mod BodySteps
 pub mod ChunkLines
 pub mod CleanHeads
+pub mod ChunkParts
 pub mod ChunkedBodies
 pub mod EndsWith
 pub mod Finishes
