@@ -145,7 +145,7 @@ class Log:
     """A log on a disk, with the calls that docs/FORMATS.md lists."""
 
     def __init__(self, disk, limit, takes_old=False):
-        self.disk, self.limit, self.closed = disk, limit, False
+        self.disk, self.limit, self.closed, self.is_old = disk, limit, False, False
         try:
             for name in ("head", "one", "two"):
                 disk.sync(name)
@@ -168,6 +168,7 @@ class Log:
             data = disk.read(self.file, 0, size)
         except Fault:
             raise Refused("Disk")
+        self.is_old = data[:8] == b"MTLOG001"
         self.gate = (records if takes_old and data[:8] == b"MTLOG001" else scan)(data)[1]
 
     def name_one(self):
@@ -198,6 +199,24 @@ class Log:
 
     def run(self, payloads):
         """What each record of a run is told, and its end."""
+        told, next = self.add_all(payloads)
+        return told, self.end(next)
+
+    def drop(self, payloads, more):
+        """The same of a run that is given up, and whether there was room for so many bytes more."""
+        told, next = self.add_all(payloads)
+        room = "true" if next + 21 + more + 1 <= self.limit else "false"
+        if self.closed:
+            return told, room, "Err(Closed)"
+        try:
+            if next > self.gate:
+                self.disk.sync(self.file)
+        except Fault:
+            self.closed = True
+            return told, room, "Err(Disk)"
+        return told, room, "Ok(())"
+
+    def add_all(self, payloads):
         told, next = [], self.gate
         for payload in payloads:
             if self.closed:
@@ -214,7 +233,7 @@ class Log:
                 except Fault:
                     self.closed = True
                     told.append("Err(Disk)")
-        return told, self.end(next)
+        return told, next
 
     def end(self, next):
         if self.closed:
@@ -228,6 +247,10 @@ class Log:
             return "Err(Disk)"
         self.gate = next
         return "Ok(())"
+
+    def next(self, place, size):
+        behind = place + 21 + size
+        return f"Some({behind})" if behind <= self.gate else "None"
 
     def payloads(self):
         return [p for _, p in records(self.disk.now[self.file])[0]]
@@ -344,10 +367,18 @@ class Table:
         told, end = self.log.run(payloads)
         row(" ".join(["run"] + [word(p) for p in payloads]), ", ".join(told + [f"end {end}"]))
 
+    def drop_run(self, more, *payloads):
+        told, room, end = self.log.drop(payloads, more)
+        row(" ".join(["drop-run", str(more)] + [word(p) for p in payloads]), ", ".join(told + [f"room {room}", f"dropped {end}"]))
+
+    def next(self, place, size):
+        row(f"next {place} {size}", self.log.next(place, size))
+
     def log_is(self):
         """Two rows. To read a payload takes a call of the disk for its length and, where it has bytes, one for them."""
         log = self.log
-        row("log", f"{log.gate + 1} bytes, closed {'true' if log.closed else 'false'}")
+        told = ["true" if it else "false" for it in (log.closed, log.is_old)]
+        row("log", f"{log.gate + 1} bytes, limit {log.limit}, closed {told[0]}, old {told[1]}")
         if not log.closed:
             self.it.calls += sum(1 + bool(p) for p in log.payloads())
             row("payloads", f"{log.gate + 1} bytes:" + "".join(" " + whole(p) for p in log.payloads()))
@@ -494,14 +525,39 @@ def limits(t):
     t.calls()
     t.run()
     t.calls()
+    say("A run that is given up adds nothing, and one sync is its end; `drop-run` asks whether there is room for so many bytes more.")
+    t.disk(b"", b"", b"")
+    t.open(60)
+    t.drop_run(5, b"one")
+    t.drop_run(6, b"one")
+    t.calls()
+    t.log_is()
+    t.drop_run(29)
+    t.drop_run(30)
+    t.calls()
+    t.run(b"other")
+    t.log_is()
+    say("A log that is closed takes no more.")
+    row("close")
+    t.log.closed = True
+    t.append(b"")
+    t.run(b"")
+    t.drop_run(0, b"")
+    t.log_is()
+    t.calls()
+    t.disk(b"", b"", b"", [11])
+    t.open(60)
+    t.drop_run(0, b"one")
+    t.log_is()
     say("Payloads by their places; an empty one.")
     t.disk(b"\2", b"", log_of([b"one", b"", b"three"]))
     t.open(200)
     row("first", 8)
-    row("next 8 3", 8 + 21 + 3)
-    row("next 32 0", 32 + 21)
-    row("next 53 5", 53 + 21 + 5)
-    row("next 79 0", "past")
+    for place, size in [(8, 3), (32, 0), (53, 5), (53, 6), (79, 0), (8, 2 ** 64 - 1)]:
+        t.next(place, size)
+    for place, size in [(8, 3), (32, 0), (53, 5)]:
+        t.it.len("two")
+        row(f"payload-len {place}", f"Ok({size})")
     t.read_at(8)
     t.read_at(32)
     t.read_at(53)

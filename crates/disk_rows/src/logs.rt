@@ -1,11 +1,13 @@
 //! The calls of `mt_log`.
+ghost use Rattle.std.specs.Prelude.{◌≡◌, ◌≤◌, false};
+
 use crate::disks::{put_bytes, zeros};
 use crate::untold::Untold;
-use mt_log::{AppendError, Log, OpenError};
+use mt_log::{AppendError, Log, OpenError, Run};
 use mt_rows::{Row, Stop};
 use std::alloc::{AllocError, Global};
 
-/// Payloads are shorter, and places lower.
+/// Payloads are shorter.
 const MOST: u64 = 1 << 32;
 
 /// The most payloads that a row shows.
@@ -42,9 +44,12 @@ pub fn answer(
         b"read-at" => put_read(alloc, disk, log, row, out)?,
         b"read-part" => put_part(alloc, disk, log, row, out)?,
         b"has-room" => write!(out, "{}", log.has_room(row.number(1)?))?,
-        b"log" => write!(out, "{} bytes, closed {}", log.len(), log.is_closed())?,
+        b"log" => put_log(log, out)?,
+        b"close" => log.close(),
+        b"payload-len" => put_len(disk, log, row, out)?,
+        b"drop-run" => put_dropped(alloc, disk, log, row, out)?,
         b"first" => write!(out, "{}", log.first())?,
-        b"next" => put_next(log, row, out)?,
+        b"next" => write!(out, "{:?}", log.next(row.number(1)?, row.number(2)?))?,
         _ => return Ok(false),
     }
     Ok(true)
@@ -62,17 +67,36 @@ pub fn append(
     Ok(log.append(disk, payload))
 }
 
-/// A run of the payloads behind the call of a row.
-pub fn run(alloc: Global, disk: &mut Untold, log: &mut Log, row: &Row) -> Result<Ran, Stop> {
+// Adds the payloads from a place of a row on to a run.
+fn add_all(
+    alloc: Global,
+    disk: &mut Untold,
+    log: &mut Log,
+    run: &mut Run,
+    row: &Row,
+    from: usize,
+) -> Result<Vec<Result<u64, AppendError>>, Stop>
+    requires order { log.old.closed ≡ false → log.old.gate ≤ run.old.next }
+    ensures order { log.new.closed ≡ false → log.new.gate ≤ run.new.next }
+{
     let mut adds = Vec::new(alloc);
-    let mut run = log.begin_run(disk);
-    for place in 1..row.len() {
+    for place in from..row.len() {
         let payload = row.bytes(place)?;
         if payload.len() as u64 >= MOST {
             return Err(Stop::NoSuchRow);
         }
-        adds.push(log.add_to_run(disk, &mut run, payload))?;
+        adds.push(log.add_to_run(disk, run, payload))?;
     }
+    Ok(adds)
+}
+
+/// A run of the payloads behind the call of a row.
+pub fn run(alloc: Global, disk: &mut Untold, log: &mut Log, row: &Row) -> Result<Ran, Stop> {
+    if log.is_old() {
+        return Err(Stop::NoSuchRow);
+    }
+    let mut run = log.begin_run(disk);
+    let adds = add_all(alloc, disk, log, &mut run, row, 1)?;
     let end = log.end_run(disk, run);
     Ok(Ran { adds, end })
 }
@@ -121,35 +145,51 @@ pub fn put_payloads(
 ) -> Result<(), Stop> {
     let mut place = log.first();
     for _ in 0..MOST_SHOWN {
-        if place >= log.len() - 1 || place >= MOST {
+        if place >= log.len() - 1 {
             return Ok(());
         }
         let payload = read(alloc, disk, log, place)?;
         out.push(' ')?;
         put_bytes(out, &payload)?;
-        let len = payload.len() as u64;
-        if len >= MOST {
-            return Err(Stop::NoSuchRow);
-        }
-        place = match log.next(place, len) {
-            Some(next) => next,
-            None => return Err(Stop::NoSuchRow),
+        let Some(next) = log.next(place, payload.len() as u64) else {
+            return Ok(());
         };
+        place = next;
     }
     Ok(())
 }
 
-// A row may ask for a small place and length alone.
-fn put_next(log: &Log, row: &Row, out: &mut String) -> Result<(), Stop> {
-    let place = row.number(1)?;
-    let len = row.number(2)?;
-    if place >= MOST || len >= MOST {
+fn put_log(log: &Log, out: &mut String) -> Result<(), AllocError> {
+    write!(out, "{} bytes, limit {}", log.len(), log.limit())?;
+    write!(out, ", closed {}, old {}", log.is_closed(), log.is_old())
+}
+
+fn put_len(disk: &mut Untold, log: &Log, row: &Row, out: &mut String) -> Result<(), Stop> {
+    if log.is_closed() {
         return Err(Stop::NoSuchRow);
     }
-    match log.next(place, len) {
-        Some(next) => write!(out, "{next}")?,
-        None => out.push_str("past")?,
+    write!(out, "{:?}", log.payload_len(disk, row.number(1)?))?;
+    Ok(())
+}
+
+// A run that is given up: what each record was told, whether there was room for one more of so many bytes, and the end.
+fn put_dropped(
+    alloc: Global,
+    disk: &mut Untold,
+    log: &mut Log,
+    row: &Row,
+    out: &mut String,
+) -> Result<(), Stop> {
+    if log.is_old() {
+        return Err(Stop::NoSuchRow);
     }
+    let mut run = log.begin_run(disk);
+    for add in add_all(alloc, disk, log, &mut run, row, 2)? {
+        write!(out, "{add:?}, ")?;
+    }
+    let has_room = log.has_room_in_run(&run, row.number(1)?);
+    let end = log.drop_run(disk, run);
+    write!(out, "room {has_room}, dropped {end:?}")?;
     Ok(())
 }
 
