@@ -34,7 +34,7 @@ pub enum Stop {
     Cut,
     /// The source failed, and counted it.
     SourceFault,
-    /// Memory was wanted.
+    /// Out of memory.
     Memory,
 }
 

@@ -23,7 +23,7 @@ pub(crate) enum Fault {
     Adding(AppendError),
     /// Standard output has failed.
     Output,
-    /// Memory was wanted.
+    /// Out of memory.
     Memory,
 }
 

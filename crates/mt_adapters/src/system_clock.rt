@@ -1,5 +1,6 @@
 //! The system's clock.
-use mt_edge::{Clock, LAST_MOMENT};
+use mt_base::LAST_MOMENT;
+use mt_edge::Clock;
 use std::marker::Model;
 use std::time;
 
@@ -13,7 +14,7 @@ pub struct SystemClock<R> {
 
 impl<R> Model for SystemClock<R> {
     ghost use Rattle.std.specs.Prelude.{ℕ, ◌≤◌};
-    ghost use Rattle.mt_edge.specs.declared.clock.TheConstants.{LAST_MOMENT};
+    ghost use Rattle.mt_base.specs.declared.limits.TheConstants.{LAST_MOMENT};
 
     ghost Value = { ℕ };
 

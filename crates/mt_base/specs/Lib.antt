@@ -1,3 +1,4 @@
+pub mod Blanks
 pub mod Counts
 pub mod Lists
 pub mod Numbers

@@ -28,6 +28,17 @@ impl Duplicate for u64 {
     }
 }
 
+/// Copies of values, in their order.
+pub fn copy_all<T: Duplicate>(alloc: Global, items: &[T]) -> Result<Vec<T>, AllocError>
+    ensures { IfOk result (λ v. v.items ≡ items.now) }
+{
+    let mut copies = Vec::with_capacity(alloc, items.len())?;
+    for item in items {
+        copies.push(item.copy(alloc)?)?;
+    }
+    Ok(copies)
+}
+
 impl<T: Duplicate> Duplicate for Option<T> {
     fn copy(&self, alloc: Global) -> Result<Option<T>, AllocError> {
         match self {

@@ -3,16 +3,21 @@
 //!
 //! - `bytes`, `text`, `sequence`: the three small types, by which plain data is built.
 //! - `duplicate`: the one trait for copies.
-//! - `specs/Counts`, `specs/Lists`, `specs/Numbers`: counts that never fall, prefixes, numbers as bytes and text.
+//! - `blanks`: spaces and tabs; `limits`: what numbers are bounded by.
+//! - `specs/Blanks`, `specs/Counts`, `specs/Lists`, `specs/Numbers`: blanks, counts that never fall, prefixes, numbers as bytes and text.
 #![tactic(auto)]
 
+mod blanks;
 mod bytes;
 mod duplicate;
+mod limits;
 mod sequence;
 mod text;
 
+pub use blanks::{is_blank, trimmed};
 pub use bytes::Bytes;
-pub use duplicate::Duplicate;
+pub use duplicate::{Duplicate, copy_all};
+pub use limits::{LAST_MOMENT, NUMBERS_END};
 pub use sequence::Sequence;
 pub use text::Text;
 

@@ -2,7 +2,7 @@
 ghost use Rattle.std.specs.Prelude.{◌≡◌, ◌+◌, ◌<◌, [], ◌∷◌, ◌++◌, length, is_ok, if◌then◌else◌};
 ghost use Rattle.std.specs.Cmp.Lexicographic.{slice_cmp, slice_partial_cmp, pointwise, lists_total, lists_agrees, lists_ties, lists_equiv, lists_per, lists_po};
 
-use crate::duplicate::Duplicate;
+use crate::duplicate::{Duplicate, copy_all};
 use std::alloc::{AllocError, Global};
 use std::cmp::Ordering;
 use std::marker::Model;
@@ -76,10 +76,7 @@ impl<T> Sequence<T> {
 
 impl<T: Duplicate> Duplicate for Sequence<T> {
     fn copy(&self, alloc: Global) -> Result<Sequence<T>, AllocError> {
-        let mut items = Vec::with_capacity(alloc, self.items.len())?;
-        for item in &self.items {
-            items.push(item.copy(alloc)?)?;
-        }
+        let items = copy_all(alloc, self.items.as_slice())?;
         Ok(Sequence { items })
     }
 }

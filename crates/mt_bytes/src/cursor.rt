@@ -112,21 +112,21 @@ impl<'a> Cursor<'a> {
     }
 }
 
-/// The number of two bytes.
+// The number of two bytes.
 fn from_two(bytes: &[u8; 2]) -> u16
     ensures { big_endian_16 result ≡ bytes.now }
 {
     u16::from_be_bytes(*bytes)
 }
 
-/// The number of four bytes.
+// The number of four bytes.
 fn from_four(bytes: &[u8; 4]) -> u32
     ensures { big_endian_32 result ≡ bytes.now }
 {
     u32::from_be_bytes(*bytes)
 }
 
-/// The number of eight bytes.
+// The number of eight bytes.
 fn from_eight(bytes: &[u8; 8]) -> u64
     ensures { big_endian_64 result ≡ bytes.now }
 {

@@ -9,7 +9,8 @@ use Rattle.mt_types.specs.declared.task.Fate.{Fate}
 use Rattle.mt_types.specs.declared.command.Archive.{Archive}
 use Rattle.mt_types.specs.declared.command.Command.{Command}
 use Rattle.mt_types.specs.declared.command.Command.TheVariants.{Put, MakeDirectory, Link, Delete, NewJob, AddInputs, EndInput, Commit, Finish, Cancel, Close, NewUpload, PutPart, CommitUpload, AbortUpload}
-use Rattle.mt_codec.specs.Spelling.{is_marked, spelling, FitsMetadata, HasSpelling, undigested}
+use Rattle.mt_codec.specs.Spelling.{is_marked, spelling, HasSpelling, undigested}
+use Rattle.mt_types.specs.Limits.{FitsMetadata}
 use Rattle.mt_codec.specs.Reading.{choice, nothing}
 use Rattle.mt_codec.specs.Readers.{has_marks, put_at, marked_put_at, make_directory_at, link_at, delete_at, new_job_at, add_inputs_at, end_input_at, commit_at, finish_at, cancel_at, close_at, new_upload_at, put_part_at, commit_upload_at, abort_upload_at, upload_command_at, job_command_at, command_at}
 use Rattle.mt_codec.proofs.Forms.{IsBytes, Took, both_form, made_again, variant_takes, choice_takes, nothing_takes, tested_form, two_form, four_form, eight_form, list_form}

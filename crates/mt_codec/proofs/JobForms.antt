@@ -18,8 +18,8 @@ use Rattle.mt_types.specs.declared.task.TaskFailure.{TaskFailure}
 use Rattle.mt_types.specs.declared.task.TaskFailure.TheVariants.{UserTaskError, TaskOutputTooLarge, TaskRecordError, TaskPlaceRefused, TaskObjectMissing}
 use Rattle.mt_types.specs.declared.task.Fate.{Fate}
 use Rattle.mt_types.specs.declared.task.Fate.TheVariants.{Good, Bad}
-use Rattle.mt_codec.specs.declared.limits.TheConstants.{MOST_PHASES, MOST_ASSETS, MOST_RECORDS, LONGEST_STDERR}
-use Rattle.mt_codec.specs.Limits.{is_count, is_line_text}
+use Rattle.mt_types.specs.declared.limits.TheConstants.{MOST_PHASES, MOST_ASSETS, MOST_RECORDS, LONGEST_STDERR}
+use Rattle.mt_types.specs.Limits.{is_count, is_line_text}
 use Rattle.mt_codec.specs.Fields.{text_spelling}
 use Rattle.mt_codec.specs.Spelling.{byte_spelling, kind_spelling, phase_spelling, document_spelling, line_spelling, record_spelling, failure_number, fate_spelling, archive_spelling, FitsKind, FitsPhase, FitsDocument, FitsLine, FitsRecord, FitsFate, FitsArchive}
 use Rattle.mt_codec.proofs.Digests.{undigested_record, undigested_fate, undigested_archive}

@@ -14,14 +14,16 @@ use Rattle.mt_path.specs.declared.area.Area.TheVariants.{Stor, Public, Jobs}
 use Rattle.mt_path.specs.declared.limits.TheConstants.{LONGEST_COMPONENT, LONGEST_PATH}
 use Rattle.mt_path.proofs.Components.{IsComponent-from_test, test_from_IsComponent}
 use Rattle.mt_types.specs.declared.object.Field.{Field}
-use Rattle.mt_codec.specs.declared.limits.TheConstants.{LAST_MOMENT, NUMBERS_A_COMMAND, NUMBERS_END, LARGEST_DURABILITY, LONGEST_CONTENT_TYPE, LAST_PART, LONGEST_NAME, LONGEST_COMMAND_LINE, MOST_METADATA, LARGEST_METADATA}
-use Rattle.mt_codec.specs.Limits.{is_moment, is_number, is_durability, is_index, is_count, is_plain_text, is_content_type, is_job_name, is_command_line, is_line_text, is_metadata_name, is_metadata, is_by_name, is_placed, metadata_size}
+use Rattle.mt_base.specs.declared.limits.TheConstants.{LAST_MOMENT, NUMBERS_END}
+use Rattle.mt_types.specs.declared.limits.TheConstants.{NUMBERS_A_COMMAND, LARGEST_DURABILITY, LONGEST_CONTENT_TYPE, LAST_PART, LONGEST_NAME, LONGEST_COMMAND_LINE, MOST_METADATA, LARGEST_METADATA}
+use Rattle.mt_types.specs.Limits.{is_moment, is_number, is_durability, is_index, is_count, is_plain_text, is_content_type, is_job_name, is_command_line, is_line_text, is_metadata_name, is_metadata, is_by_name, is_placed, metadata_size}
 use Rattle.mt_codec.specs.Fields.{text_spelling, long_text_spelling, path_spelling, body_spelling, optional_spelling}
-use Rattle.mt_codec.specs.Spelling.{byte_spelling, field_spelling, metadata_spelling, flag_number, FitsBody, FitsField, FitsMetadata, FitsText, undigested_body}
+use Rattle.mt_codec.specs.Spelling.{byte_spelling, field_spelling, metadata_spelling, flag_number, FitsBody, FitsText, undigested_body}
+use Rattle.mt_types.specs.Limits.{FitsField, FitsMetadata}
 use Rattle.mt_codec.specs.Reading.{Reader, tested, named, byte_at, number_at, sized}
 use Rattle.mt_codec.specs.Readers.{is_few_fields, moment_at, job_at, component_at, area_numbered, is_short, path_of, path_at, texts, content_type_at, body_of, body_at, durability_at, field_of, field_at, metadata_at, flag_numbered}
 use Rattle.mt_codec.proofs.Forms.{IsForm, same, said, both_form, made_form, shown_form, tested_form, named_form, byte_form, two_form, four_form, eight_form, sized_form, list_form, optional_form}
-use Rattle.mt_codec.proofs.Metadata.{each_small}
+use Rattle.mt_types.proofs.Metadata.{each_small}
 
 -- a number that passes a test and is below what its bytes may hold because it does
 narrowed : {spell : ℕ → List ℕ} {limit : ℕ} {f : Reader ℕ} → IsForm spell (λ n. n < limit) same f → (test : ℕ → Bool) → ((n : ℕ) → test n ≡ true → n < limit)

@@ -5,10 +5,10 @@ pub mod JobForms
 pub mod Known
 pub mod Loops
 pub mod Marks
-pub mod Metadata
 pub mod Options
 pub mod Paths
 pub mod Sizes
+pub mod SizesRead
 pub mod Utf8
 pub mod Weaker
 pub mod Whole

@@ -23,10 +23,11 @@ use Rattle.mt_types.specs.declared.task.Fate.{Fate}
 use Rattle.mt_types.specs.declared.task.Fate.TheVariants.{Good, Bad}
 use Rattle.mt_types.specs.declared.command.Command.{Command}
 use Rattle.mt_types.specs.declared.command.Command.TheVariants.{Put, MakeDirectory, Link, Delete, NewJob, AddInputs, EndInput, Commit, Finish, Cancel, Close, NewUpload, PutPart, CommitUpload, AbortUpload}
-use Rattle.mt_codec.specs.declared.limits.TheConstants.{LONGEST_CONTENT_TYPE, LARGEST_METADATA, LONGEST_COMMAND_LINE}
-use Rattle.mt_codec.specs.Limits.{is_by_name, is_content_type, is_plain_text, metadata_size}
+use Rattle.mt_types.specs.declared.limits.TheConstants.{LONGEST_CONTENT_TYPE, LARGEST_METADATA, LONGEST_COMMAND_LINE}
+use Rattle.mt_types.specs.Limits.{is_by_name, is_content_type, is_plain_text, metadata_size}
 use Rattle.mt_codec.specs.Fields.{text_spelling, long_text_spelling, path_spelling, body_spelling, optional_spelling}
-use Rattle.mt_codec.specs.Spelling.{byte_spelling, field_spelling, metadata_spelling, kind_spelling, phase_spelling, document_spelling, line_spelling, record_spelling, failure_number, fate_spelling, archive_spelling, is_marked, put_spelling, spelling, FitsMetadata, FitsCommandLine, FitsPhase, FitsDocument, FitsLine, FitsRecord, FitsFate, FitsPut, HasSpelling}
+use Rattle.mt_codec.specs.Spelling.{byte_spelling, field_spelling, metadata_spelling, kind_spelling, phase_spelling, document_spelling, line_spelling, record_spelling, failure_number, fate_spelling, archive_spelling, is_marked, put_spelling, spelling, FitsCommandLine, FitsPhase, FitsDocument, FitsLine, FitsRecord, FitsFate, FitsPut, HasSpelling}
+use Rattle.mt_types.specs.Limits.{FitsMetadata}
 use Rattle.mt_codec.specs.Pieces.{lines_bound, size_bound}
 
 -- ---- the length of parts that stand behind each other

@@ -5,8 +5,8 @@ use Rattle.std.specs.Str.{is_utf8}
 use Rattle.std.specs.List.{list_all, list_any}
 use Rattle.std.proofs.lemmas.Bool.{and_parts, false_from_ne_true, leb-true, eqb-true}
 use Rattle.std.proofs.lemmas.Str.{IsUtf8-from_ascii, IsUtf8-from_is_utf8, is_utf8-from_IsUtf8}
-use Rattle.mt_codec.specs.Limits.{is_visible, is_plain_text, is_content_type, is_token_byte, is_metadata_name}
-use Rattle.mt_codec.specs.declared.limits.TheConstants.{LONGEST_CONTENT_TYPE, TOKEN_MARKS}
+use Rattle.mt_types.specs.Limits.{is_visible, is_plain_text, is_content_type, is_token_byte, is_metadata_name}
+use Rattle.mt_types.specs.declared.limits.TheConstants.{LONGEST_CONTENT_TYPE, TOKEN_MARKS}
 
 -- text that passes a test of each byte that ASCII alone passes
 ascii : (p : ℕ → Bool) → ((b : ℕ) → p b ≡ true → b < 128) → (t : List ℕ) → list_all p t ≡ true → (i : ℕ) → get_or t i 0 < 128

@@ -1,6 +1,5 @@
-pub mod Limits
 pub mod Fields
-pub mod Pieces
 pub mod Spelling
+pub mod Pieces
 pub mod Reading
 pub mod Readers

@@ -5,12 +5,22 @@ use Rattle.mt_types.specs.declared.document.InputLine.{InputLine}
 use Rattle.mt_types.specs.declared.document.InputLine.TheVariants.{Named, Other}
 use Rattle.mt_types.specs.declared.command.Command.{Command}
 use Rattle.mt_types.specs.declared.command.Command.TheVariants.{Put, MakeDirectory, Link, Delete, NewJob, AddInputs, EndInput, Commit, Finish, Cancel, Close, NewUpload, PutPart, CommitUpload, AbortUpload}
-use Rattle.mt_codec.specs.declared.limits.TheConstants.{LARGEST_PIECE}
+use Rattle.mt_types.specs.Values.{command_with}
+use Rattle.mt_codec.specs.Spelling.{spelling}
+use Rattle.mt_types.specs.declared.limits.TheConstants.{LARGEST_PIECE}
 
 -- a piece of a body in the log: a 0, and 1 to 65,536 bytes
 abbrev pub is_piece : List ℕ → Bool
 is_piece [] = false
 is_piece (mark ∷ bytes) = (mark == 0) && (nat_le 1 (length bytes) && nat_le (length bytes) LARGEST_PIECE)
+
+-- a body that stands for any, where sizes alone are asked
+abbrev pub blank_body : Body
+blank_body = record { first = 0; len = 0; md5 = [] }
+
+-- the length of the spelling of a command, whatever its bodies are
+unfoldable pub spelled_size : {B : Type 0} → Command B → ℕ
+spelled_size c = length (spelling (command_with (λ b. blank_body) c))
 
 -- a line has at most so many bytes
 abbrev pub line_bound : InputLine → ℕ

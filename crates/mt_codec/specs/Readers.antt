@@ -23,8 +23,8 @@ use Rattle.mt_types.specs.declared.task.Fate.TheVariants.{Good, Bad}
 use Rattle.mt_types.specs.declared.command.Archive.{Archive}
 use Rattle.mt_types.specs.declared.command.Command.{Command}
 use Rattle.mt_types.specs.declared.command.Command.TheVariants.{Put, MakeDirectory, Link, Delete, NewJob, AddInputs, EndInput, Commit, Finish, Cancel, Close, NewUpload, PutPart, CommitUpload, AbortUpload}
-use Rattle.mt_codec.specs.declared.limits.TheConstants.{MOST_METADATA, MOST_PHASES, MOST_ASSETS, MOST_RECORDS, LONGEST_STDERR}
-use Rattle.mt_codec.specs.Limits.{is_moment, is_number, is_durability, is_count, is_index, is_plain_text, is_content_type, is_job_name, is_command_line, is_line_text, is_metadata_name, is_metadata, is_placed}
+use Rattle.mt_types.specs.declared.limits.TheConstants.{MOST_METADATA, MOST_PHASES, MOST_ASSETS, MOST_RECORDS, LONGEST_STDERR}
+use Rattle.mt_types.specs.Limits.{is_moment, is_number, is_durability, is_count, is_index, is_plain_text, is_content_type, is_job_name, is_command_line, is_line_text, is_metadata_name, is_metadata, is_placed}
 use Rattle.mt_codec.specs.Spelling.{is_marked}
 use Rattle.mt_codec.specs.Reading.{◌>>=◌, ◌&◌, Reader, made, tested, named, choice, nothing, byte_at, number_at, sized, counted, optional}
 

@@ -22,8 +22,8 @@ use Rattle.mt_types.specs.declared.command.Archive.{Archive}
 use Rattle.mt_types.specs.declared.command.Command.{Command}
 use Rattle.mt_types.specs.declared.command.Command.TheVariants.{Put, MakeDirectory, Link, Delete, NewJob, AddInputs, EndInput, Commit, Finish, Cancel, Close, NewUpload, PutPart, CommitUpload, AbortUpload}
 use Rattle.mt_types.specs.Values.{command_with}
-use Rattle.mt_codec.specs.declared.limits.TheConstants.{MOST_METADATA, MOST_PHASES, MOST_ASSETS, MOST_RECORDS, LONGEST_STDERR}
-use Rattle.mt_codec.specs.Limits.{is_moment, is_number, is_durability, is_count, is_index, is_plain_text, is_content_type, is_job_name, is_command_line, is_line_text, is_metadata_name, is_metadata, is_placed}
+use Rattle.mt_types.specs.declared.limits.TheConstants.{MOST_PHASES, MOST_ASSETS, MOST_RECORDS, LONGEST_STDERR}
+use Rattle.mt_types.specs.Limits.{is_moment, is_number, is_durability, is_count, is_index, is_content_type, is_job_name, is_command_line, is_line_text, is_placed, FitsMetadata}
 use Rattle.mt_codec.specs.Fields.{text_spelling, long_text_spelling, path_spelling, body_spelling, optional_spelling}
 
 -- ---- the grammar: each field, one after the other
@@ -144,16 +144,6 @@ FitsText typed t = Typed typed (IsTrue (is_utf8 t))
 -- the number of a reducer has four bytes
 abbrev pub FitsReducer : Bool → Option ℕ → Type 0
 FitsReducer typed reducer = Typed typed (IfSome reducer (λ n. n < 2 ^ 32))
-
--- the name and the value of a piece of metadata
-abbrev pub FitsField : Field → Type 0
-FitsField f = IsTrue (is_metadata_name f.name) × IsTrue (is_plain_text f.value)
-
--- few enough, each of a good name and value, and sorted within the room for all
-pub record FitsMetadata (fields : List Field) : Type 0 where
-  pub few : length fields ≤ MOST_METADATA
-  pub each : AllByRecursion FitsField fields
-  pub all : IsTrue (is_metadata fields)
 
 -- a reduce phase has a number of reducers within the limit
 abbrev pub FitsKind : PhaseKind → Type 0

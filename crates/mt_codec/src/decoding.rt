@@ -29,7 +29,7 @@ pub fn decode(alloc: Global, bytes: &[u8]) -> Result<Command<Body>, DecodeError>
     whole(alloc, bytes)
 }
 
-/// A command, and nothing behind it.
+// A command, and nothing behind it.
 #[tactic(auto, unfolding(crate::specs::Readers::whole_command))]
 fn whole(alloc: Global, bytes: &[u8]) -> Result<Command<Body>, DecodeError>
     ensures { Makes result (whole_command bytes.now) }
@@ -43,7 +43,7 @@ fn whole(alloc: Global, bytes: &[u8]) -> Result<Command<Body>, DecodeError>
     Ok(command)
 }
 
-/// A command behind its first byte.
+// A command behind its first byte.
 #[tactic(auto, unfolding(crate::specs::Readers::command_at))]
 fn command(alloc: Global, mark: u8, cursor: &mut Cursor) -> Result<Command<Body>, DecodeError>
     ensures { Gives result cursor.new (command_at (mark ∷ cursor.old)) }
@@ -58,7 +58,7 @@ fn command(alloc: Global, mark: u8, cursor: &mut Cursor) -> Result<Command<Body>
     }
 }
 
-/// A command of a job behind its first byte.
+// A command of a job behind its first byte.
 #[tactic(auto, unfolding(crate::specs::Readers::job_command_at))]
 fn job_command(alloc: Global, mark: u8, cursor: &mut Cursor) -> Result<Command<Body>, DecodeError>
     ensures { Gives result cursor.new (job_command_at (mark ∷ cursor.old)) }
@@ -75,7 +75,7 @@ fn job_command(alloc: Global, mark: u8, cursor: &mut Cursor) -> Result<Command<B
     }
 }
 
-/// A command of an upload behind its first byte.
+// A command of an upload behind its first byte.
 #[tactic(auto, unfolding(crate::specs::Readers::upload_command_at))]
 fn upload_command(
     alloc: Global,

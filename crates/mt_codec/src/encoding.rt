@@ -3,31 +3,33 @@ ghost use Rattle.std.specs.Prelude.{◌≡◌, ◌≢◌, ◌<◌, ◌^◌, ◌+
 ghost use Rattle.std.specs.List.{flat_map, AllByRecursion};
 ghost use Rattle.mt_base.specs.Numbers.{big_endian_16, big_endian_32, big_endian_64};
 ghost use Rattle.mt_types.specs.Kinds.{OnRows, OnUploads, kind_of};
-ghost use Rattle.mt_codec.specs.Limits.{is_content_type};
+ghost use Rattle.mt_types.specs.Limits.{is_content_type};
 ghost use Rattle.mt_codec.specs.Fields.{body_spelling, path_spelling, text_spelling};
 ghost use Rattle.mt_codec.specs.Spelling.{FitsDocument, FitsFate, FitsLine, FitsPut, IsWithinLimits, archive_spelling, byte_spelling, document_spelling, fate_spelling, flag_number, is_marked, line_spelling, put_spelling, spelling};
 
 use crate::decoding::is_marked;
-use crate::room::room;
 use crate::values::{put_archive, put_document, put_fate, put_lines, put_parts};
 use crate::writing::{put_body, put_content_type, put_durability, put_metadata, put_path};
 use mt_bytes::{put_u8, put_u16, put_u32, put_u64};
 use mt_types::{Archive, Body, Command, Fate, Field, Fields, InputLine, JobDocument, Path, Text};
 use std::alloc::{AllocError, Global};
 
-/// The bytes that spell a command, in one buffer whose room is taken first. The digests of its bodies are
-/// not looked at.
+/// The room that is made at first for a command, in bytes.
+const FIRST_ROOM: usize = 256;
+
+/// The bytes that spell a command. The digests of its bodies are not looked at. It takes 256 bytes of memory, and more
+/// in proportion to their number.
 #[tactic(auto, unfolding(crate::specs::Spelling::spelling))]
 pub fn encode(alloc: Global, command: &Command<Body>) -> Result<Vec<u8>, AllocError>
     requires { IsWithinLimits command.now }
     ensures { IfOk result (λ bytes. bytes.items ≡ spelling command.now) }
 {
-    let mut out = Vec::with_capacity(alloc, room(command))?;
+    let mut out = Vec::with_capacity(alloc, FIRST_ROOM)?;
     put_command(&mut out, command)?;
     Ok(out)
 }
 
-/// A command.
+// A command.
 #[tactic(auto, unfolding(crate::specs::Spelling::spelling))]
 fn put_command(out: &mut Vec<u8>, command: &Command<Body>) -> Result<(), AllocError>
     requires { IsWithinLimits command.now }
@@ -56,7 +58,7 @@ fn put_command(out: &mut Vec<u8>, command: &Command<Body>) -> Result<(), AllocEr
     }
 }
 
-/// A command of a job.
+// A command of a job.
 #[tactic(auto, unfolding(crate::specs::Spelling::spelling))]
 fn put_job_command(out: &mut Vec<u8>, command: &Command<Body>) -> Result<(), AllocError>
     requires limits { IsWithinLimits command.now }
@@ -88,7 +90,7 @@ fn put_job_command(out: &mut Vec<u8>, command: &Command<Body>) -> Result<(), All
     }
 }
 
-/// A command of an upload.
+// A command of an upload.
 #[tactic(auto, unfolding(crate::specs::Spelling::spelling))]
 fn put_upload_command(out: &mut Vec<u8>, command: &Command<Body>) -> Result<(), AllocError>
     requires limits { IsWithinLimits command.now }
@@ -118,7 +120,7 @@ fn put_upload_command(out: &mut Vec<u8>, command: &Command<Body>) -> Result<(), 
     }
 }
 
-/// A put.
+// A put.
 fn put_put(
     out: &mut Vec<u8>,
     path: &Path,
@@ -142,7 +144,7 @@ fn put_put(
     put_body(out, body)
 }
 
-/// A first byte, a moment, a path and a content type.
+// A first byte, a moment, a path and a content type.
 fn put_typed(
     out: &mut Vec<u8>,
     mark: u8,
@@ -158,7 +160,7 @@ fn put_typed(
     put_content_type(out, content_type)
 }
 
-/// A first byte, a moment and a path.
+// A first byte, a moment and a path.
 fn put_at_path(out: &mut Vec<u8>, mark: u8, moment: u64, path: &Path) -> Result<(), AllocError>
     ensures { OnOk result (out.new.items ≡ out.old.items ++ mark ∷ (big_endian_64 moment ++ path_spelling path.now)) }
 {
@@ -167,7 +169,7 @@ fn put_at_path(out: &mut Vec<u8>, mark: u8, moment: u64, path: &Path) -> Result<
     put_path(out, path)
 }
 
-/// A first byte, a moment and the number of a job or of an upload.
+// A first byte, a moment and the number of a job or of an upload.
 fn put_of_job(out: &mut Vec<u8>, mark: u8, moment: u64, job: u64) -> Result<(), AllocError>
     ensures { OnOk result (out.new.items ≡ out.old.items ++ mark ∷ (big_endian_64 moment ++ big_endian_64 job)) }
 {
@@ -241,7 +243,7 @@ fn put_close(
     put_archive(out, archive)
 }
 
-/// The number of a flag.
+// The number of a flag.
 fn flag_code(flag: bool) -> u8
     ensures { result ≡ flag_number flag }
 {

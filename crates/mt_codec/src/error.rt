@@ -8,7 +8,7 @@ use std::alloc::{AllocError, AllocFailed};
 pub enum DecodeError {
     /// No command is spelled so.
     NotACommand,
-    /// Memory was wanting.
+    /// Out of memory.
     Memory,
 }
 

@@ -3,7 +3,8 @@ ghost use Rattle.std.specs.Prelude.{◌≡◌, ◌≤◌, ◌++◌, false, List,
 ghost use Rattle.mt_types.specs.declared.body.Body.{Body};
 ghost use Rattle.mt_types.specs.declared.command.Command.{Command};
 ghost use Rattle.mt_codec.specs.Spelling.{HasSpelling, IsWithinLimits, spelling, undigested};
-ghost use Rattle.mt_codec.specs.Pieces.{is_piece, size_bound};
+ghost use Rattle.mt_codec.specs.Pieces.{is_piece, size_bound, spelled_size};
+ghost use Rattle.mt_types.specs.Values.{command_with};
 
 use crate::decoding::decode;
 use crate::encoding::encode;
@@ -41,6 +42,13 @@ pub fn spelled_within_limits()
 /// How many bytes a command has at most, by its fields.
 pub fn sizes()
     ensures { (c : Command Body) → HasSpelling c → length (spelling c) ≤ size_bound c }
+{}
+
+/// The length of a spelling depends on no body: it is the size of the command, over references and over bytes.
+pub fn sizes_are_read()
+    ensures size { (c : Command Body) → length (spelling c) ≡ spelled_size c }
+    ensures same { (f : Body → Body) (c : Command Body) → length (spelling (command_with f c)) ≡ length (spelling c) }
+    ensures read { (f : Body → List ℕ) (c : Command Body) → spelled_size (command_with f c) ≡ spelled_size c }
 {}
 
 /// No command is a piece.

@@ -1,15 +1,15 @@
 //! Numbers, and fields that begin with one, read from a cursor.
 ghost use Rattle.std.specs.Prelude.{◌≡◌};
 ghost use Rattle.std.specs.Int.{w16, w32, w64};
-ghost use Rattle.mt_codec.specs.Limits.{is_count, is_durability, is_index, is_moment, is_number};
+ghost use Rattle.mt_types.specs.Limits.{is_count, is_durability, is_index, is_moment, is_number};
 ghost use Rattle.mt_codec.specs.Reading.{Gives, Shows, byte_at, bytes_at, named, number_at, optional, sized, tested};
 ghost use Rattle.mt_codec.specs.Readers.{durability_at, flag_numbered, job_at, moment_at};
 
 use crate::error::DecodeError;
-use crate::limits::{
+use mt_bytes::Cursor;
+use mt_types::{
     LARGEST_DURABILITY, LAST_MOMENT, LAST_PART, MOST_REDUCERS, NUMBERS_A_COMMAND, NUMBERS_END,
 };
-use mt_bytes::Cursor;
 
 /// The next byte.
 pub fn byte(cursor: &mut Cursor) -> Result<u8, DecodeError>
@@ -139,7 +139,7 @@ pub fn durability(cursor: &mut Cursor) -> Result<Option<u8>, DecodeError>
     }
 }
 
-/// A number of copies.
+// A number of copies.
 fn copies(cursor: &mut Cursor) -> Result<u8, DecodeError>
     ensures { Gives result cursor.new (tested is_durability byte_at cursor.old) }
 {

@@ -2,7 +2,7 @@
 ghost use Rattle.std.specs.Prelude.{◌≡◌};
 ghost use Rattle.mt_codec.specs.Pieces.{is_piece};
 
-use crate::limits::LARGEST_PIECE;
+use mt_types::LARGEST_PIECE;
 
 /// Whether the bytes are a piece of a body: a 0, and 1 to 65,536 bytes behind it. Takes no memory.
 pub fn is_piece(bytes: &[u8]) -> bool

@@ -2,27 +2,26 @@
 ghost use Rattle.std.specs.Prelude.{◌≡◌, length, nat_le, Option, Some, None, IsUtf8, IfOk, if◌then◌else◌};
 ghost use Rattle.std.specs.Int.{w16, w32, w64};
 ghost use Rattle.std.specs.Str.{is_utf8};
-ghost use Rattle.mt_codec.specs.Limits.{is_command_line, is_job_name, is_line_text, is_metadata_name, is_plain_text};
+ghost use Rattle.mt_types.specs.Limits.{is_command_line, is_job_name, is_line_text, is_metadata_name, is_plain_text};
 ghost use Rattle.mt_codec.specs.Reading.{Gives, Makes, Shows, byte_at, counted, named, number_at, optional, sized, tested};
 ghost use Rattle.mt_path.specs.AccountPath.{slashed};
 ghost use Rattle.mt_codec.specs.Readers.{area_numbered, is_short, path_of, body_at, command_line_at, component_at, content_type_at, field_at, metadata_at, path_at, texts};
 
 use crate::error::DecodeError;
-use crate::limits::{LARGEST_METADATA, MOST_METADATA};
 use crate::numbers::{byte, eight, long_piece, short_piece, two};
 use crate::spelled::{Spelled, times};
-use crate::texts::{
-    are_by_name, is_command_line, is_content_type, is_job_name, is_line_text, is_metadata_name,
-    is_metadata_within, is_plain_text,
-};
 use crate::writing::{put_field, put_path, put_text};
 use mt_bytes::Cursor;
 use mt_path::{Area, LONGEST_PATH, is_component};
-use mt_types::{Body, Bytes, Field, Fields, Path, Sequence, Text};
+use mt_types::{
+    Body, Bytes, Field, Fields, LARGEST_METADATA, MOST_METADATA, Path, Sequence, Text, are_by_name,
+    is_command_line, is_content_type, is_job_name, is_line_text, is_metadata_name,
+    is_metadata_within, is_plain_text,
+};
 use std::alloc::{AllocError, Global};
 use std::str;
 
-/// A copy of bytes that are UTF-8.
+// A copy of bytes that are UTF-8.
 fn text_of(alloc: Global, piece: &[u8]) -> Result<Text, DecodeError>
     ensures { Makes result (if is_utf8 piece.now then Some piece.now else None) }
 {
@@ -32,7 +31,7 @@ fn text_of(alloc: Global, piece: &[u8]) -> Result<Text, DecodeError>
     }
 }
 
-/// A copy of bytes that are known to be UTF-8.
+// A copy of bytes that are known to be UTF-8.
 fn known_text(alloc: Global, piece: &[u8]) -> Result<Text, AllocError>
     requires { IsUtf8 piece.now }
     ensures { IfOk result (λ t. t ≡ piece.now) }
@@ -54,7 +53,7 @@ pub fn content_type(alloc: Global, cursor: &mut Cursor) -> Result<Text, DecodeEr
     Ok(known_text(alloc, piece)?)
 }
 
-/// The name of a piece of metadata.
+// The name of a piece of metadata.
 fn metadata_name(alloc: Global, cursor: &mut Cursor) -> Result<Text, DecodeError>
     ensures { Gives result cursor.new (tested is_metadata_name (sized (number_at w16)) cursor.old) }
 {
@@ -65,7 +64,7 @@ fn metadata_name(alloc: Global, cursor: &mut Cursor) -> Result<Text, DecodeError
     Ok(known_text(alloc, piece)?)
 }
 
-/// The value of a piece of metadata.
+// The value of a piece of metadata.
 fn metadata_value(alloc: Global, cursor: &mut Cursor) -> Result<Bytes, DecodeError>
     ensures { Gives result cursor.new (tested is_plain_text (sized (number_at w16)) cursor.old) }
 {
@@ -109,7 +108,7 @@ pub fn line_text(alloc: Global, cursor: &mut Cursor) -> Result<Text, DecodeError
     text_of(alloc, piece)
 }
 
-/// A component of a path.
+// A component of a path.
 fn component(alloc: Global, cursor: &mut Cursor) -> Result<Bytes, DecodeError>
     ensures { Gives result cursor.new (component_at cursor.old) }
 {
@@ -120,7 +119,7 @@ fn component(alloc: Global, cursor: &mut Cursor) -> Result<Bytes, DecodeError>
     Ok(Bytes::from_slice(alloc, piece)?)
 }
 
-/// An area.
+// An area.
 fn area(cursor: &mut Cursor) -> Result<Area, DecodeError>
     ensures { Gives result cursor.new (named area_numbered byte_at cursor.old) }
 {
@@ -152,7 +151,7 @@ impl Spelled for Bytes {
     }
 }
 
-/// The components of a path.
+// The components of a path.
 fn components(alloc: Global, cursor: &mut Cursor) -> Result<Vec<Bytes>, DecodeError>
     ensures { Shows (λ parts. parts.items) result cursor.new (counted (number_at w16) component_at cursor.old) }
 {
@@ -174,7 +173,7 @@ pub fn path(alloc: Global, cursor: &mut Cursor) -> Result<Path, DecodeError>
     Ok(Path::from_parts(area, parts))
 }
 
-/// Whether a path has no more bytes than one may have.
+// Whether a path has no more bytes than one may have.
 fn is_short(area: Area, parts: &[Bytes]) -> bool
     ensures { result ≡ is_short (path_of (area, parts.now)) }
 {
@@ -182,7 +181,7 @@ fn is_short(area: Area, parts: &[Bytes]) -> bool
     is_within(parts, LONGEST_PATH - area_len)
 }
 
-/// Whether components, each with its slash, have at most so many bytes.
+// Whether components, each with its slash, have at most so many bytes.
 fn is_within(parts: &[Bytes], most: usize) -> bool
     ensures { result ≡ nat_le (length (slashed parts.now)) most }
 {
@@ -235,7 +234,7 @@ pub fn body(cursor: &mut Cursor) -> Result<Body, DecodeError>
     })
 }
 
-/// A piece of metadata.
+// A piece of metadata.
 #[tactic(auto, unfolding(crate::specs::Readers::field_at))]
 fn field(alloc: Global, cursor: &mut Cursor) -> Result<Field, DecodeError>
     ensures { Gives result cursor.new (field_at cursor.old) }

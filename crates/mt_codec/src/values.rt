@@ -9,7 +9,6 @@ ghost use Rattle.mt_codec.specs.Reading.{Gives, Shows, byte_at, counted, named, 
 ghost use Rattle.mt_codec.specs.Readers.{archive_at, bad_at, command_line_at, document_at, emit_at, failure_numbered, fate_at, good_at, is_few_assets, is_few_records, is_phases, is_short_stderr, keep_at, kind_at, line_at, path_at, phase_at, record_at};
 
 use crate::error::DecodeError;
-use crate::limits::{LONGEST_STDERR, MOST_ASSETS, MOST_PHASES, MOST_RECORDS};
 use crate::numbers::{byte, bytes, count, eight, four, reducer, two};
 use crate::pieces::{body, command_line, job_name, line_text, path};
 use crate::spelled::{Spelled, put_all, times};
@@ -18,12 +17,13 @@ use crate::writing::{
 };
 use mt_bytes::{Cursor, put_u8, put_u16, put_u32, put_u64};
 use mt_types::{
-    Archive, Body, Bytes, Fate, InputLine, JobDocument, Lines, PartNumbers, Path, Paths, Phase,
-    PhaseKind, Phases, TaskFailure, TaskRecord, TaskRecords, Text,
+    Archive, Body, Bytes, Fate, InputLine, JobDocument, LONGEST_STDERR, Lines, MOST_ASSETS,
+    MOST_PHASES, MOST_RECORDS, PartNumbers, Path, Paths, Phase, PhaseKind, Phases, TaskFailure,
+    TaskRecord, TaskRecords, Text,
 };
 use std::alloc::{AllocError, Global};
 
-/// How a phase cuts its feed.
+// How a phase cuts its feed.
 #[tactic(auto, unfolding(crate::specs::Readers::kind_at))]
 fn kind(cursor: &mut Cursor) -> Result<PhaseKind, DecodeError>
     ensures { Gives result cursor.new (kind_at cursor.old) }
@@ -37,7 +37,7 @@ fn kind(cursor: &mut Cursor) -> Result<PhaseKind, DecodeError>
     }
 }
 
-/// A command line that is run before, where there is one.
+// A command line that is run before, where there is one.
 fn init(alloc: Global, cursor: &mut Cursor) -> Result<Option<Text>, DecodeError>
     ensures { Gives result cursor.new (optional command_line_at cursor.old) }
 {
@@ -48,7 +48,7 @@ fn init(alloc: Global, cursor: &mut Cursor) -> Result<Option<Text>, DecodeError>
     }
 }
 
-/// The assets of a phase.
+// The assets of a phase.
 fn assets(alloc: Global, cursor: &mut Cursor) -> Result<Paths, DecodeError>
     ensures { Gives result cursor.new (counted (tested is_few_assets byte_at) path_at cursor.old) }
 {
@@ -59,7 +59,7 @@ fn assets(alloc: Global, cursor: &mut Cursor) -> Result<Paths, DecodeError>
     times(alloc, n, cursor)
 }
 
-/// A phase.
+// A phase.
 #[tactic(auto, unfolding(crate::specs::Readers::phase_at))]
 fn phase(alloc: Global, cursor: &mut Cursor) -> Result<Phase, DecodeError>
     ensures { Gives result cursor.new (phase_at cursor.old) }
@@ -96,7 +96,7 @@ impl Spelled for Phase {
     }
 }
 
-/// The phases of a job.
+// The phases of a job.
 fn phases(alloc: Global, cursor: &mut Cursor) -> Result<Phases, DecodeError>
     ensures { Gives result cursor.new (counted (tested is_phases byte_at) phase_at cursor.old) }
 {
@@ -117,7 +117,7 @@ pub fn document(alloc: Global, cursor: &mut Cursor) -> Result<JobDocument, Decod
     Ok(JobDocument { name, phases })
 }
 
-/// A posted line.
+// A posted line.
 #[tactic(auto, unfolding(crate::specs::Readers::line_at))]
 fn line(alloc: Global, cursor: &mut Cursor) -> Result<InputLine, DecodeError>
     ensures { Gives result cursor.new (line_at cursor.old) }
@@ -157,7 +157,7 @@ pub fn lines(alloc: Global, cursor: &mut Cursor) -> Result<Lines, DecodeError>
     times(alloc, n as usize, cursor)
 }
 
-/// A place, where one is named.
+// A place, where one is named.
 fn place(alloc: Global, cursor: &mut Cursor) -> Result<Option<Path>, DecodeError>
     ensures { Gives result cursor.new (optional path_at cursor.old) }
 {
@@ -168,7 +168,7 @@ fn place(alloc: Global, cursor: &mut Cursor) -> Result<Option<Path>, DecodeError
     }
 }
 
-/// A new object that is an output.
+// A new object that is an output.
 fn emit(alloc: Global, cursor: &mut Cursor) -> Result<TaskRecord<Body>, DecodeError>
     ensures { Gives result cursor.new (emit_at cursor.old) }
 {
@@ -182,7 +182,7 @@ fn emit(alloc: Global, cursor: &mut Cursor) -> Result<TaskRecord<Body>, DecodeEr
     })
 }
 
-/// A new object that is none.
+// A new object that is none.
 fn keep(alloc: Global, cursor: &mut Cursor) -> Result<TaskRecord<Body>, DecodeError>
     ensures { Gives result cursor.new (keep_at cursor.old) }
 {
@@ -191,7 +191,7 @@ fn keep(alloc: Global, cursor: &mut Cursor) -> Result<TaskRecord<Body>, DecodeEr
     Ok(TaskRecord::Keep { place, body })
 }
 
-/// A record of a task.
+// A record of a task.
 #[tactic(auto, unfolding(crate::specs::Readers::record_at))]
 fn record_of(alloc: Global, cursor: &mut Cursor) -> Result<TaskRecord<Body>, DecodeError>
     ensures { Gives result cursor.new (record_at cursor.old) }
@@ -226,7 +226,7 @@ impl Spelled for TaskRecord<Body> {
     }
 }
 
-/// Why a task failed.
+// Why a task failed.
 fn failure(cursor: &mut Cursor) -> Result<TaskFailure, DecodeError>
     ensures { Gives result cursor.new (named failure_numbered byte_at cursor.old) }
 {
@@ -240,7 +240,7 @@ fn failure(cursor: &mut Cursor) -> Result<TaskFailure, DecodeError>
     }
 }
 
-/// A front of standard error.
+// A front of standard error.
 fn stderr(alloc: Global, cursor: &mut Cursor) -> Result<Bytes, DecodeError>
     ensures { Gives result cursor.new (sized (tested is_short_stderr (number_at w16)) cursor.old) }
 {
@@ -251,7 +251,7 @@ fn stderr(alloc: Global, cursor: &mut Cursor) -> Result<Bytes, DecodeError>
     Ok(Bytes::from_slice(alloc, bytes(n, cursor)?)?)
 }
 
-/// The records of a task that did well.
+// The records of a task that did well.
 fn good(alloc: Global, cursor: &mut Cursor) -> Result<Fate<Body>, DecodeError>
     ensures { Gives result cursor.new (good_at cursor.old) }
 {
@@ -263,7 +263,7 @@ fn good(alloc: Global, cursor: &mut Cursor) -> Result<Fate<Body>, DecodeError>
     Ok(Fate::Good(records))
 }
 
-/// How a task failed.
+// How a task failed.
 fn bad(alloc: Global, cursor: &mut Cursor) -> Result<Fate<Body>, DecodeError>
     ensures { Gives result cursor.new (bad_at cursor.old) }
 {
@@ -337,7 +337,7 @@ pub fn parts(alloc: Global, cursor: &mut Cursor) -> Result<PartNumbers, DecodeEr
     times(alloc, n as usize, cursor)
 }
 
-/// How a phase cuts its feed.
+// How a phase cuts its feed.
 #[tactic(auto, unfolding(crate::specs::Spelling::kind_spelling))]
 fn put_kind(out: &mut Vec<u8>, kind: PhaseKind) -> Result<(), AllocError>
     ensures { OnOk result (out.new.items ≡ out.old.items ++ kind_spelling kind) }
@@ -351,7 +351,7 @@ fn put_kind(out: &mut Vec<u8>, kind: PhaseKind) -> Result<(), AllocError>
     }
 }
 
-/// A phase.
+// A phase.
 #[tactic(auto, unfolding(crate::specs::Spelling::phase_spelling))]
 fn put_phase(out: &mut Vec<u8>, phase: &Phase) -> Result<(), AllocError>
     requires { FitsPhase false phase.now }
@@ -375,7 +375,7 @@ pub fn put_document(out: &mut Vec<u8>, document: &JobDocument) -> Result<(), All
     put_all(out, document.phases.as_slice())
 }
 
-/// A posted line.
+// A posted line.
 #[tactic(auto, unfolding(crate::specs::Spelling::line_spelling))]
 fn put_line(out: &mut Vec<u8>, line: &InputLine) -> Result<(), AllocError>
     requires { FitsLine false line.now }
@@ -403,7 +403,7 @@ pub fn put_lines(out: &mut Vec<u8>, lines: &[InputLine]) -> Result<(), AllocErro
     put_all(out, lines)
 }
 
-/// A record of a task.
+// A record of a task.
 #[tactic(auto, unfolding(crate::specs::Spelling::record_spelling))]
 fn put_record(out: &mut Vec<u8>, record_of: &TaskRecord<Body>) -> Result<(), AllocError>
     ensures { OnOk result (out.new.items ≡ out.old.items ++ record_spelling record_of.now) }
@@ -430,7 +430,7 @@ fn put_record(out: &mut Vec<u8>, record_of: &TaskRecord<Body>) -> Result<(), All
     }
 }
 
-/// A place, and the body that is to stand there.
+// A place, and the body that is to stand there.
 fn put_kept(out: &mut Vec<u8>, place: &Path, body: &Body) -> Result<(), AllocError>
     ensures { OnOk result (out.new.items ≡ out.old.items ++ (path_spelling place.now ++ body_spelling body.now)) }
 {
@@ -438,7 +438,7 @@ fn put_kept(out: &mut Vec<u8>, place: &Path, body: &Body) -> Result<(), AllocErr
     put_body(out, body)
 }
 
-/// The number of a failure.
+// The number of a failure.
 fn failure_code(failure: TaskFailure) -> u8
     ensures { result ≡ failure_number failure }
 {

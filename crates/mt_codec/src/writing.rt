@@ -2,9 +2,10 @@
 ghost use Rattle.std.specs.Prelude.{◌≡◌, ◌<◌, ◌^◌, ◌++◌, false, length, IfSome, IsTrue, OnOk};
 ghost use Rattle.std.specs.List.{flat_map};
 ghost use Rattle.mt_base.specs.Numbers.{big_endian_16, big_endian_32, big_endian_64};
-ghost use Rattle.mt_codec.specs.Limits.{is_command_line, is_content_type, is_durability};
+ghost use Rattle.mt_types.specs.Limits.{is_command_line, is_content_type, is_durability};
 ghost use Rattle.mt_codec.specs.Fields.{body_spelling, long_text_spelling, optional_spelling, path_spelling, text_spelling};
-ghost use Rattle.mt_codec.specs.Spelling.{FitsCommandLine, FitsMetadata, byte_spelling, field_spelling, metadata_spelling};
+ghost use Rattle.mt_codec.specs.Spelling.{FitsCommandLine, byte_spelling, field_spelling, metadata_spelling};
+ghost use Rattle.mt_types.specs.Limits.{FitsMetadata};
 
 use crate::spelled::put_all;
 use mt_bytes::{put_bytes, put_u8, put_u16, put_u32, put_u64};

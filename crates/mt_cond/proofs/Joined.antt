@@ -2,7 +2,7 @@
 use Rattle.std.proofs.Common.{◌≡◌, ℕ, suc, ◌+◌, ◌<◌, true, false, List, [], ◌∷◌, ◌++◌, length, drop, get_or, Option, Some, None, refl, sym, ap, ◌∙◌, append_assoc, add-one, drop-cons}
 use Rattle.std.specs.List.{join_with_byte}
 use Rattle.mt_types.specs.declared.object.Field.{Field}
-use Rattle.mt_cond.specs.Fields.{is_named, values_of}
+use Rattle.mt_types.specs.Fields.{is_named, values_of}
 use Rattle.mt_cond.specs.Tags.{comma, joined, with_piece}
 
 -- the value so far, joined with the values to come

@@ -4,7 +4,7 @@ use Rattle.std.specs.Option.{option_and_then}
 use Rattle.httpdate.specs.Date.{parse_secs}
 use Rattle.mt_types.specs.declared.object.Field.{Field}
 use Rattle.mt_types.specs.declared.object.Object.{Object}
-use Rattle.mt_cond.specs.Fields.{first_value, values_of}
+use Rattle.mt_types.specs.Fields.{first_value, values_of}
 use Rattle.mt_cond.specs.Tags.{has_any, has_strong, tag_list}
 use Rattle.mt_cond.specs.declared.tags.TagList.{TagList}
 use Rattle.mt_cond.specs.declared.conditions.Conditions.{Conditions}

@@ -1,4 +1,4 @@
 pub mod Conditions
-pub mod Fields
+pub mod Laws
 pub mod Range
 pub mod Tags

@@ -1,21 +1,12 @@
 -- Lists of entity tags (RFC 9110, sections 8.8.3, 13.1.1 and 13.1.2), and which objects they name.
 use Rattle.std.specs.Prelude.{◌≡◌, ◌⊎◌, ℕ, ◌-◌, ◌^◌, ◌<◌, Bool, true, false, not, ◌&&◌, ◌||◌, ◌==◌, nat_eq, nat_le, List, [], ◌∷◌, ◌++◌, length, take, drop, codes, bytes_eq, Option, Some, None, slice_range, if◌then◌else◌}
 use Rattle.std.specs.Option.{option_map}
-use Rattle.std.specs.List.{ends_with, filter_map, join_with_byte, list_any, prefix_len, slice_split, starts_with, suffix_len}
+use Rattle.std.specs.List.{ends_with, filter_map, join_with_byte, list_any, slice_split, starts_with}
+use Rattle.mt_base.specs.Blanks.{trimmed}
 use Rattle.mt_ident.specs.Identifiers.{identifier_number, identifier_text}
 use Rattle.mt_cond.specs.declared.tags.Tag.{Tag}
 use Rattle.mt_cond.specs.declared.tags.TagList.{TagList}
 use Rattle.mt_cond.specs.declared.tags.TagList.TheVariants.{Any, Tags}
-
--- a space or a tab
-abbrev pub is_blank : ℕ → Bool
-is_blank b = b == 32 || b == 9
-
--- without the blanks around it
-abbrev pub trimmed : List ℕ → List ℕ
-trimmed text =
-    let rest : List ℕ = drop (prefix_len is_blank text) text in
-    take (length rest - suffix_len is_blank rest) rest
 
 -- `b','` and `b'"'`
 abbrev pub comma : ℕ

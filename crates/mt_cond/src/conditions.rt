@@ -3,10 +3,9 @@ ghost use Rattle.std.specs.Prelude.{◌≡◌, IfOk};
 ghost use Rattle.std.specs.Option.{option_copied};
 ghost use Rattle.mt_cond.specs.Conditions.{conditions_of, date_in, expected_by, judged, news_by};
 
-use crate::fields::first_value;
 use crate::tags::TagList;
 use mt_ident::read_http_date;
-use mt_types::{Field, Fields, Object};
+use mt_types::{Field, Fields, Object, first_value};
 use std::alloc::{AllocError, Global};
 
 /// The conditions of a request.
@@ -69,7 +68,7 @@ pub fn judge<B>(conditions: &Conditions, object: Option<&Object<B>>, is_read: bo
     }
 }
 
-/// Whether If-Match holds, or else If-Unmodified-Since.
+// Whether If-Match holds, or else If-Unmodified-Since.
 fn is_expected<B>(conditions: &Conditions, object: Option<&Object<B>>) -> bool
     ensures { result ≡ expected_by conditions.now.if_match conditions.now.if_unmodified_since (option_copied object.entry) }
 {
@@ -84,7 +83,7 @@ fn is_expected<B>(conditions: &Conditions, object: Option<&Object<B>>) -> bool
     }
 }
 
-/// Whether If-None-Match holds, or else, for a read, If-Modified-Since.
+// Whether If-None-Match holds, or else, for a read, If-Modified-Since.
 fn is_news<B>(conditions: &Conditions, object: Option<&Object<B>>, is_read: bool) -> bool
     ensures { result ≡ news_by conditions.now.if_none_match conditions.now.if_modified_since is_read (option_copied object.entry) }
 {
@@ -100,7 +99,7 @@ fn is_news<B>(conditions: &Conditions, object: Option<&Object<B>>, is_read: bool
     }
 }
 
-/// The date in the first field of a name, if it can be read.
+// The date in the first field of a name, if it can be read.
 fn date_in(fields: &[Field], name: &str) -> Option<u64>
     ensures { result ≡ date_in name.now fields.now }
 {

@@ -3,13 +3,10 @@
 //!
 //! - `conditions`: the four fields, as they are read and as they are judged; `tags`: their lists of tags.
 //! - `range`: a byte range, as it is read and what it selects.
-//! - `laws`: how a tag is written, and that a range of an object has one answer.
-//! - `fields`, `blanks`: the fields of one name, and values without the blanks around them.
+//! - `laws`: how a tag is written, that a range of an object has one answer, and that judgements hang on no body.
 #![tactic(auto)]
 
-mod blanks;
 mod conditions;
-mod fields;
 pub mod laws;
 mod range;
 mod tags;

@@ -1,10 +1,9 @@
 //! Byte ranges over an object of known length.
 ghost use Rattle.std.specs.Prelude.{◌≡◌, ◌<◌, ◌↔◌, length, position, IfSome};
-ghost use Rattle.mt_cond.specs.Range.{Answers, AsksFor, range_between, range_in, range_written, ranged, is_hyphen};
+ghost use Rattle.mt_cond.specs.Range.{IsRangeAnswer, AsksFor, range_between, range_in, range_written, ranged, is_hyphen};
 
-use crate::fields::{first_value, has_field};
 use mt_bytes::read_decimal;
-use mt_types::Fields;
+use mt_types::{Fields, first_value, has_field};
 
 /// A byte range as the field writes it (RFC 9110, section 14.1.2). Places count bytes from 0.
 #[derive(Clone, Copy, Debug, PartialEq, Eq)]
@@ -60,7 +59,7 @@ impl Range {
     }
 }
 
-/// The range that a value writes.
+// The range that a value writes.
 fn range_written(value: &[u8]) -> Option<Range>
     ensures { result ≡ range_written value.now }
 {
@@ -69,7 +68,7 @@ fn range_written(value: &[u8]) -> Option<Range>
     range_between(&ends[..place], &ends[place + 1..])
 }
 
-/// The place of the first hyphen.
+// The place of the first hyphen.
 fn hyphen_at(ends: &[u8]) -> Option<usize>
     ensures place { result ≡ position is_hyphen ends.now }
     ensures within { IfSome result (λ place. place < length ends.now) }
@@ -77,7 +76,7 @@ fn hyphen_at(ends: &[u8]) -> Option<usize>
     ends.iter().position(|b| *b == b'-')
 }
 
-/// The range between what stands before the hyphen and behind it.
+// The range between what stands before the hyphen and behind it.
 fn range_between(first: &[u8], last: &[u8]) -> Option<Range>
     ensures { result ≡ range_between first.now last.now }
 {
@@ -100,7 +99,7 @@ fn range_between(first: &[u8], last: &[u8]) -> Option<Range>
 /// What a range of an object of `len` bytes gets. Takes no memory.
 pub fn range_of(range: &Range, len: u64) -> Ranged
     ensures value { result ≡ ranged range.now len }
-    ensures selected { Answers range.now len result }
+    ensures selected { IsRangeAnswer range.now len result }
 {
     match *range {
         Range::Between { first, last } if first <= last && first < len => Ranged::Part {

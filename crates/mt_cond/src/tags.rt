@@ -2,13 +2,12 @@
 ghost use Rattle.std.specs.Prelude.{◌≡◌, ◌==◌, ◌&&◌, not, IfOk};
 ghost use Rattle.std.specs.List.{list_any};
 ghost use Rattle.std.specs.Option.{option_map};
-ghost use Rattle.mt_cond.specs.Fields.{values_of};
+ghost use Rattle.mt_types.specs.Fields.{values_of};
 ghost use Rattle.mt_cond.specs.Tags.{has_any, has_strong, joined, object_tag, tag_list, tag_of, tags_in, unquoted, with_piece};
 
-use crate::blanks::trimmed;
-use crate::fields::is_named;
+use mt_base::trimmed;
 use mt_ident::uuid_number;
-use mt_types::{Field, Sequence};
+use mt_types::{Field, Sequence, is_named};
 use std::alloc::{AllocError, Global};
 
 /// The kind of the identifiers that are etags of objects.
@@ -71,21 +70,21 @@ impl TagList {
     }
 }
 
-/// Whether a tag is the etag of this object.
+// Whether a tag is the etag of this object.
 fn some_is(tags: &[Tag], number: u64) -> bool
     ensures { result ≡ list_any (λ t. t.number == number) tags.now }
 {
     tags.iter().any(|tag| tag.number == number)
 }
 
-/// Whether a tag that is not weak is the etag of this object.
+// Whether a tag that is not weak is the etag of this object.
 fn some_is_strong(tags: &[Tag], number: u64) -> bool
     ensures { result ≡ list_any (λ t. t.number == number && not t.weak) tags.now }
 {
     tags.iter().any(|tag| tag.number == number && !tag.weak)
 }
 
-/// The values of the fields of a name, with a comma between each two (RFC 9110, section 5.3).
+// The values of the fields of a name, with a comma between each two (RFC 9110, section 5.3).
 fn joined(alloc: Global, fields: &[Field], name: &str) -> Result<Option<Vec<u8>>, AllocError>
     ensures { IfOk result (λ value. option_map (λ v. v.items) value ≡ joined (values_of name.now fields.now)) }
 {
@@ -98,7 +97,7 @@ fn joined(alloc: Global, fields: &[Field], name: &str) -> Result<Option<Vec<u8>>
     Ok(value)
 }
 
-/// A value and one more piece.
+// A value and one more piece.
 fn with_piece(alloc: Global, value: Option<Vec<u8>>, piece: &[u8]) -> Result<Vec<u8>, AllocError>
     ensures { IfOk result (λ v. v.items ≡ with_piece (option_map (λ v. v.items) value) piece.now) }
 {
@@ -112,7 +111,7 @@ fn with_piece(alloc: Global, value: Option<Vec<u8>>, piece: &[u8]) -> Result<Vec
     }
 }
 
-/// The tags of objects in a value.
+// The tags of objects in a value.
 fn tags_in(alloc: Global, value: &[u8]) -> Result<Sequence<Tag>, AllocError>
     ensures { IfOk result (λ tags. tags ≡ tags_in value.now) }
 {
@@ -123,7 +122,7 @@ fn tags_in(alloc: Global, value: &[u8]) -> Result<Sequence<Tag>, AllocError>
     Ok(Sequence::from_vec(tags))
 }
 
-/// The tag that a piece is, if it is an object's.
+// The tag that a piece is, if it is an object's.
 fn tag_of(piece: &[u8]) -> Option<Tag>
     ensures { result ≡ tag_of piece.now }
 {
@@ -133,7 +132,7 @@ fn tag_of(piece: &[u8]) -> Option<Tag>
     }
 }
 
-/// The tag of a text in quotes or not.
+// The tag of a text in quotes or not.
 fn object_tag(weak: bool, text: &[u8]) -> Option<Tag>
     ensures { result ≡ object_tag weak text.now }
 {
@@ -141,7 +140,7 @@ fn object_tag(weak: bool, text: &[u8]) -> Option<Tag>
     Some(Tag { number, weak })
 }
 
-/// A text without one pair of double quotes around it.
+// A text without one pair of double quotes around it.
 fn unquoted(text: &[u8]) -> &[u8]
     ensures { result.now ≡ unquoted text.now }
 {

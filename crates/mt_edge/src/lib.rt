@@ -29,7 +29,7 @@ mod tests;
 mod whole;
 
 pub use both::Both;
-pub use clock::{Clock, LAST_MOMENT};
+pub use clock::Clock;
 pub use door::Door;
 pub use fixed_clock::FixedClock;
 pub use joined::Joined;
@@ -37,6 +37,7 @@ pub use mem_door::MemDoor;
 pub use mem_link::MemLink;
 pub use mem_sink::MemSink;
 pub use mem_source::MemSource;
+pub use mt_base::LAST_MOMENT;
 pub use never_fails::NeverFails;
 pub use no_door::NoDoor;
 pub use no_spawner::NoSpawner;

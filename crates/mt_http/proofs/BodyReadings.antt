@@ -105,7 +105,7 @@ end_left : (s : BodyState) (left : Option (List ℕ)) (s' : BodyState) (left' : 
 end_left s left s' None by = sym (ap (body_left s) by.gone)
 end_left s left s' (Some rest) by = sym (ap (body_left s) by.gone ∙ ap (λ (t : Told). Some t.body) (end_goes s left s' rest by))
 
-end_after : (s : BodyState) (left : Option (List ℕ)) (s' : BodyState) (left' : Option (List ℕ)) → EndsBy s left s' left' → after_body s' left' ≡ after_body s left
+pub end_after : (s : BodyState) (left : Option (List ℕ)) (s' : BodyState) (left' : Option (List ℕ)) → EndsBy s left s' left' → after_body s' left' ≡ after_body s left
 end_after s left s' None by = sym (ap (after_body s) by.gone)
 end_after s left s' (Some rest) by = sym (ap (after_body s) by.gone ∙ ap (λ (t : Told). Some (t.ending, t.rest)) (end_goes s left s' rest by))
 

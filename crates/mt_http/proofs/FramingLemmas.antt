@@ -2,7 +2,8 @@
 use Rattle.std.proofs.Common.{◌≡◌, ℕ, ◌+◌, ◌<◌, ◌≤◌, true, false, Bool, List, [], ◌∷◌, Option, Some, None, length, refl, arith}
 use Rattle.mt_types.specs.declared.object.Field.{Field}
 use Rattle.mt_http.specs.declared.framing.Framing.TheVariants.{Empty}
-use Rattle.mt_http.specs.Message.{is_named, values_of, first_value, framing_by, framing_by_coding, framing_by_length}
+use Rattle.mt_types.specs.Fields.{first_value, is_named, values_of}
+use Rattle.mt_http.specs.Message.{framing_by, framing_by_coding, framing_by_length}
 
 -- the first of some values
 abbrev pub first_of : List (List ℕ) → Option (List ℕ)

@@ -2,13 +2,17 @@ pub mod Bodies
 pub mod BodyReadings
 pub mod BodySteps
 pub mod ChunkLines
+pub mod CleanHeads
 pub mod ChunkedBodies
 pub mod EndsWith
+pub mod Finishes
 pub mod FramingLemmas
 pub mod Heads
+pub mod LocalBodies
 pub mod MessageLaws
 pub mod Places
 pub mod ReadBody
+pub mod ReadChunks
 pub mod ReadHead
 pub mod ReadMessage
 pub mod ReplyLines

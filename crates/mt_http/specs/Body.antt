@@ -1,5 +1,5 @@
 -- What a list of bytes is as a body: its bytes, how it ends, and what follows (RFC 9112, sections 6 and 7.1).
-use Rattle.std.specs.Prelude.{ℕ, ◌+◌, ◌-◌, Bool, true, false, ◌==◌, nat_lt, nat_le, if◌then◌else◌, List, [], ◌∷◌, ◌++◌, length, Option, Some, None}
+use Rattle.std.specs.Prelude.{◌≡◌, ℕ, ◌+◌, ◌-◌, Bool, true, false, ◌==◌, nat_lt, nat_le, if◌then◌else◌, List, [], ◌∷◌, ◌++◌, length, Option, Some, None}
 use Rattle.httparse.specs.Ascii.{line_feed, carriage_return}
 use Rattle.mt_http.specs.Chunk.{chunk_line_size}
 use Rattle.mt_http.specs.declared.framing.Framing.{Framing}
@@ -163,3 +163,8 @@ told_from s (b ∷ bytes) = told_by s.stage b bytes (told_from (next_state s b) 
 -- what these bytes are as a body of this framing, of at most so many bytes
 abbrev pub body_at : Framing → ℕ → List ℕ → Told
 body_at told limit bytes = told_from (first_state told limit) bytes
+
+-- a body that is whole is told by the bytes up to its end, whatever follows them
+abbrev pub WholeBodyIsLocal : Type 0
+WholeBodyIsLocal = (s : BodyState) (bytes body rest : List ℕ) → told_from s bytes ≡ record { body = body; ending = Whole; rest = rest }
+    → (used : List ℕ) × (bytes ≡ used ++ rest) × ((more : List ℕ) → told_from s (used ++ more) ≡ record { body = body; ending = Whole; rest = more })

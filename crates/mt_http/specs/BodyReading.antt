@@ -1,5 +1,5 @@
 -- What the steps of reading a body do, by what was left of the source before and after.
-use Rattle.std.specs.Prelude.{◌≡◌, ℕ, ◌+◌, ◌<◌, ◌≤◌, ◌⊎◌, List, [], ◌++◌, length, take, Option, IfSome, option_map, Result, Ok, Err}
+use Rattle.std.specs.Prelude.{◌≡◌, ℕ, ◌+◌, ◌<◌, ◌≤◌, ◌⊎◌, List, [], ◌++◌, length, take, Option, Some, None, IfSome, option_map, Result, Ok, Err}
 use Rattle.mt_base.specs.Counts.{Rose, NeverFell}
 use Rattle.mt_edge.specs.declared.source.ReadStep.{ReadStep}
 use Rattle.mt_edge.specs.declared.source.ReadStep.TheVariants as read
@@ -67,6 +67,12 @@ Streams s left faults into read.Failed s' left' faults' = Goes s left [] s' left
 abbrev pub IsShorter : ReadStep → ℕ → ℕ → Type 0
 IsShorter (read.Took n) before now = n + now ≤ before
 IsShorter _ before now = now ≤ before
+
+-- The rest of a body was read, whatever it was. Where it ended so, this is how it was to end, and what is left is what follows
+-- it; where the source failed, both are as before.
+abbrev pub Finished : BodyState → Option (List ℕ) → Option Ending → BodyState → Option (List ℕ) → Type 0
+Finished s left (Some ending) s' left' = (s'.stage ≡ Over ending) × (after_body s left ≡ option_map (λ rest. (ending, rest)) left')
+Finished s left None s' left' = after_body s' left' ≡ after_body s left
 
 -- more of a body behind its first bytes
 abbrev pub ReadsBehind : ℕ → BodyState → Option (List ℕ) → ℕ → List ℕ → ReadStep → BodyState → Option (List ℕ) → ℕ → List ℕ → Type 0

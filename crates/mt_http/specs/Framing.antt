@@ -1,11 +1,12 @@
 -- What stands at the front of a list of bytes, however they come: the end, a whole message, or a fault.
-use Rattle.std.specs.Prelude.{◌≡◌, ℕ, ◌<◌, ◌≤◌, ◌⊎◌, bytes_eq, codes, if◌then◌else◌, List, [], ◌∷◌, ◌++◌, length, Option, Some, None, Result, Ok, Err, IfSome}
+use Rattle.std.specs.Prelude.{◌≡◌, ℕ, ◌<◌, ◌≤◌, ◌⊎◌, bytes_eq, codes, if◌then◌else◌, List, [], ◌∷◌, ◌++◌, length, All, Option, Some, None, Result, Ok, Err, IfSome}
 use Rattle.httparse.specs.Ascii.{line_feed, carriage_return}
 use Rattle.httparse.specs.Grammar.{LineEnd, print_end, print_blank, RequestHead, ReadsRequest}
+use Rattle.mt_types.specs.declared.limits.TheConstants.{LARGEST_BODY}
 use Rattle.mt_base.specs.Counts.{Rose, NeverFell}
 use Rattle.mt_edge.specs.Stream.{LeftAfter}
 use Rattle.mt_http.specs.Body.{Told, body_at}
-use Rattle.mt_http.specs.Message.{head_of, message_of}
+use Rattle.mt_http.specs.Message.{IsClean, head_of, message_of}
 use Rattle.mt_http.specs.declared.message.Ending.{Ending}
 use Rattle.mt_http.specs.declared.message.Ending.TheVariants as ending
 use Rattle.mt_http.specs.declared.message.Head.{Head}
@@ -23,7 +24,7 @@ field_limit = 100
 
 -- a body has no more bytes than this, by the request's method
 abbrev pub body_limit : List ℕ → ℕ
-body_limit method = if bytes_eq method (codes "PUT") then 1073741824 else 16777216
+body_limit method = if bytes_eq method (codes "PUT") then LARGEST_BODY else 16777216
 
 -- how many bytes the body of a head may have
 abbrev pub limit_of : Head → ℕ
@@ -69,6 +70,10 @@ pub record RequestAt (bytes : List ℕ) (head : Head) (rest : List ℕ) : Type 0
   pub stands : HeadAt bytes text rest
   pub reads : IsRequestHeadOf text h
   pub says : head_of h ≡ Some head
+
+-- a head that is read has few fields, and each is clean
+abbrev pub HeadsAreClean : Type 0
+HeadsAreClean = (bytes : List ℕ) (head : Head) (rest : List ℕ) → RequestAt bytes head rest → (length head.fields ≤ field_limit) × All IsClean head.fields
 
 -- what these bytes are as the body of a head
 abbrev pub body_of : Head → List ℕ → Told

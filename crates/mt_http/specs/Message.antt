@@ -1,9 +1,10 @@
 -- What a request head says: its fields, and how the length of the body is told (RFC 9112, section 6).
-use Rattle.std.specs.Prelude.{ℕ, Bool, bytes_eq, codes, if◌then◌else◌, List, [], ◌∷◌, map, filter, Option, Some, None, option_map}
+use Rattle.std.specs.Prelude.{◌≡◌, ℕ, bytes_eq, codes, if◌then◌else◌, List, [], ◌∷◌, map, reverse, Option, Some, None, option_map}
 use Rattle.std.specs.Str.{str_to_ascii_lowercase}
-use Rattle.httparse.specs.Grammar.{RequestHead, field_value}
+use Rattle.httparse.specs.Grammar.{AllPass, IsToken, RequestHead, field_value, is_value_byte, skip_ows}
 use Rattle.httparse.specs.Grammar as grammar
 use Rattle.mt_bytes.specs.Decimals.{decimal_number}
+use Rattle.mt_types.specs.Fields.{values_of}
 use Rattle.mt_types.specs.declared.object.Field.{Field}
 use Rattle.mt_http.specs.declared.message.Head.{Head}
 use Rattle.mt_http.specs.declared.message.Message.{Message}
@@ -18,18 +19,14 @@ field_of line = record { name = str_to_ascii_lowercase line.name; value = field_
 abbrev pub fields_of : RequestHead → List Field
 fields_of h = map field_of h.fields
 
--- the field has this name
-abbrev pub is_named : List ℕ → Field → Bool
-is_named name field = bytes_eq field.name name
-
--- the values of the fields of this name, in order
-abbrev pub values_of : List ℕ → List Field → List (List ℕ)
-values_of name fields = map (λ f. f.value) (filter (is_named name) fields)
-
--- the value of the first field of this name
-abbrev pub first_value : List ℕ → List Field → Option (List ℕ)
-first_value name [] = None
-first_value name (f ∷ fields) = if is_named name f then Some f.value else first_value name fields
+-- a field as a head has it: the name is a token in lower case; the value has no control byte but the tab, and no blank at
+-- either end
+pub record IsClean (f : Field) : Type 0 where
+  pub name : IsToken f.name
+  pub lower : str_to_ascii_lowercase f.name ≡ f.name
+  pub value : AllPass is_value_byte f.value
+  pub front : skip_ows f.value ≡ f.value
+  pub back : skip_ows (reverse f.value) ≡ reverse f.value
 
 -- by a Content-Length: a decimal of 1 to 19 digits
 abbrev pub framing_by_length : List ℕ → Option Framing

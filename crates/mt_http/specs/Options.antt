@@ -1,10 +1,10 @@
 -- What a request's head asks for: the interim reply, and that the connection closes.
-use Rattle.std.specs.Prelude.{ℕ, Bool, true, false, ◌&&◌, ◌||◌, ◌==◌, nat_lt, nat_le, bytes_eq, List, [], ◌∷◌, map, take, drop, codes, Option, Some, None, if◌then◌else◌}
-use Rattle.std.specs.Char.{to_ascii_lowercase}
-use Rattle.std.specs.List.{list_all, list_any, slice_split}
+use Rattle.std.specs.Prelude.{ℕ, Bool, true, false, ◌&&◌, ◌||◌, ◌==◌, nat_lt, nat_le, bytes_eq, List, [], codes, Option, Some, None, if◌then◌else◌}
+use Rattle.std.specs.List.{list_any, slice_split}
 use Rattle.std.specs.Str.{str_to_ascii_lowercase}
 use Rattle.mt_http.specs.Framing.{limit_of}
-use Rattle.mt_http.specs.Message.{is_named, first_value}
+use Rattle.mt_base.specs.Blanks.{trimmed}
+use Rattle.mt_types.specs.Fields.{first_value, is_named}
 use Rattle.mt_http.specs.declared.framing.Framing.{Framing}
 use Rattle.mt_http.specs.declared.framing.Framing.TheVariants.{Empty, Length, Chunked}
 use Rattle.mt_types.specs.declared.object.Field.{Field}
@@ -37,20 +37,9 @@ interim_line = codes "HTTP/1.1 100 Continue\r\n\r\n"
 abbrev pub interim : Head → List ℕ
 interim head = if wants_interim head then interim_line else []
 
--- spaces and tabs
-abbrev pub is_blank : ℕ → Bool
-is_blank b = (b == 32) || (b == 9)
-
-abbrev pub skip_blanks : List ℕ → List ℕ
-skip_blanks [] = []
-skip_blanks (b ∷ bytes) = if is_blank b then skip_blanks bytes else b ∷ bytes
-
--- `close` in any case, and blanks
-abbrev pub begins_with_close : List ℕ → Bool
-begins_with_close word = bytes_eq (map to_ascii_lowercase (take 5 word)) (codes "close")
-
+-- `close` in any case, among blanks
 abbrev pub says_close : List ℕ → Bool
-says_close word = begins_with_close (skip_blanks word) && list_all is_blank (drop 5 (skip_blanks word))
+says_close word = bytes_eq (str_to_ascii_lowercase (trimmed word)) (codes "close")
 
 -- `close` is among the words between commas
 abbrev pub has_close : List ℕ → Bool

@@ -1,9 +1,10 @@
 //! How the fields of a head tell the length of the body (RFC 9112, section 6).
-ghost use Rattle.std.specs.Prelude.{◌≡◌, length, option_map};
-ghost use Rattle.mt_http.specs.Message.{first_value, framing, framing_by_coding, framing_by_length, is_named, values_of};
+ghost use Rattle.std.specs.Prelude.{◌≡◌, length};
+ghost use Rattle.mt_http.specs.Message.{framing, framing_by_coding, framing_by_length};
+ghost use Rattle.mt_types.specs.Fields.{values_of};
 
 use mt_bytes::read_decimal;
-use mt_types::Field;
+use mt_types::{Field, first_value};
 
 /// How the length of a body is told.
 #[derive(Clone, Copy, Debug, PartialEq, Eq)]
@@ -27,18 +28,6 @@ fn count_of(fields: &[Field], name: &str) -> usize
         }
     }
     count
-}
-
-/// The value of the first field of this name.
-pub(crate) fn value_of<'a>(fields: &'a [Field], name: &str) -> Option<&'a [u8]>
-    ensures { option_map (λ v. v.now) result ≡ first_value name.now fields.now }
-{
-    for field in fields {
-        if field.name.as_str() == name {
-            return Some(field.value.as_slice());
-        }
-    }
-    None
 }
 
 fn coding_framing(coding: &[u8]) -> Option<Framing>
@@ -70,9 +59,9 @@ pub(crate) fn read_framing(fields: &[Field]) -> Option<Framing>
     if 1 < codings || 1 < lengths || codings + lengths == 2 {
         return None;
     }
-    match value_of(fields, "transfer-encoding") {
+    match first_value(fields, "transfer-encoding") {
         Some(coding) => coding_framing(coding),
-        None => match value_of(fields, "content-length") {
+        None => match first_value(fields, "content-length") {
             Some(text) => length_framing(text),
             None => Some(Framing::Empty),
         },

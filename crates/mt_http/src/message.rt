@@ -46,7 +46,7 @@ pub enum MessageEnd {
     TooLarge,
     /// The source failed, and counted it.
     SourceFault,
-    /// Memory was wanted.
+    /// Out of memory.
     Memory,
 }
 

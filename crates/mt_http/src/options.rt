@@ -1,17 +1,15 @@
 //! What a request's head asks of the one who reads its body.
 ghost use Rattle.std.specs.Prelude.{◌≡◌};
-ghost use Rattle.std.specs.List.{list_all, list_any};
+ghost use Rattle.std.specs.List.{list_any};
 ghost use Rattle.mt_http.specs.Framing as said;
 ghost use Rattle.mt_http.specs.Options as option;
 
-use crate::framing::{Framing, value_of};
+use crate::framing::Framing;
 use crate::message::Head;
-use mt_types::Field;
+use mt_base::trimmed;
+use mt_types::{Field, LARGEST_BODY, first_value};
 
-/// The body of a PUT has no more bytes than this.
-const PUT_LIMIT: u64 = 1_073_741_824;
-
-/// The body of any other request has no more bytes than this.
+/// The body of a request that is no PUT has no more bytes than this.
 const BODY_LIMIT: u64 = 16_777_216;
 
 /// How many bytes the body of a head may have: 1,073,741,824 for PUT, 16,777,216 for every other method.
@@ -19,7 +17,7 @@ pub fn limit_of(head: &Head) -> u64
     ensures { result ≡ said.limit_of head.now }
 {
     if head.method.as_str() == "PUT" {
-        PUT_LIMIT
+        LARGEST_BODY
     } else {
         BODY_LIMIT
     }
@@ -38,7 +36,7 @@ fn has_body(framing: Framing, limit: u64) -> bool
 fn asks_to_continue(fields: &[Field]) -> bool
     ensures { result ≡ option.asks_to_continue fields.now }
 {
-    match value_of(fields, "expect") {
+    match first_value(fields, "expect") {
         Some(value) => value.eq_ignore_ascii_case(b"100-continue"),
         None => false,
     }
@@ -54,48 +52,11 @@ pub fn wants_interim(head: &Head) -> bool
         && has_body(head.framing, limit_of(head))
 }
 
-fn is_blank_byte(byte: u8) -> bool
-    ensures { result ≡ option.is_blank byte }
-{
-    byte == b' ' || byte == b'\t'
-}
-
-// The bytes from the first that is no blank.
-fn without_blanks(bytes: &[u8]) -> &[u8]
-    ensures { result.now ≡ option.skip_blanks bytes.now }
-{
-    for at in 0..bytes.len() {
-        if !is_blank_byte(bytes[at]) {
-            return &bytes[at..];
-        }
-    }
-    &[]
-}
-
-fn are_blanks(bytes: &[u8]) -> bool
-    ensures { result ≡ list_all option.is_blank bytes.now }
-{
-    bytes.iter().all(|byte| is_blank_byte(*byte))
-}
-
-fn begins_with_close(word: &[u8]) -> bool
-    ensures { result ≡ option.begins_with_close word.now }
-{
-    if word.len() < 5 {
-        return false;
-    }
-    word[..5].eq_ignore_ascii_case(b"close")
-}
-
 // Whether a word is `close`, in any case, among blanks.
 fn is_close(word: &[u8]) -> bool
     ensures { result ≡ option.says_close word.now }
 {
-    let word = without_blanks(word);
-    if !begins_with_close(word) {
-        return false;
-    }
-    word.len() <= 5 || are_blanks(&word[5..])
+    trimmed(word).eq_ignore_ascii_case(b"close")
 }
 
 fn has_close(value: &[u8]) -> bool

@@ -1,6 +1,7 @@
 //! The next message of a source.
-ghost use Rattle.std.specs.Prelude.{◌≤◌, length, IfOk};
+ghost use Rattle.std.specs.Prelude.{◌≤◌, length, All, IfOk};
 ghost use Rattle.mt_http.specs.Framing.{Receives, ReceivesHead, body_limit};
+ghost use Rattle.mt_http.specs.Message.{IsClean};
 
 use crate::body::read_body;
 use crate::head::{HeadRead, find_head};
@@ -9,12 +10,15 @@ use crate::request::read_request;
 use mt_edge::Source;
 use std::alloc::Global;
 
-/// Reads the head at the front of a source, and no byte past it. It is read byte by byte, and takes memory in
-/// proportion to its length.
+/// Reads the head at the front of a source, and no byte past it, by pieces of its lines. It takes memory in proportion
+/// to its length.
 pub fn read_head<S: Source>(alloc: Global, source: &mut S) -> Result<Head, MessageEnd>
     ensures stays { S.source_stays source.old source.new }
     ensures read { ReceivesHead (S.left source.old) (S.read_faults source.old)
         result (S.left source.new) (S.read_faults source.new) }
+    ensures few { IfOk result (λ head. length head.fields ≤ 100) }
+    // Names are tokens in lower case; values have no control byte but the tab, and no blank at either end.
+    ensures clean { IfOk result (λ head. All IsClean head.fields) }
 {
     match find_head(alloc, source) {
         HeadRead::Whole(head) => match read_request(alloc, head.as_slice()) {

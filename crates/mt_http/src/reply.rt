@@ -25,7 +25,7 @@ const JOINED_BODY: usize = 8_192;
 pub enum ReplyEnd {
     /// The sink failed, and counted it. A front of the reply was written.
     SinkFault,
-    /// Memory was wanted. Nothing was written.
+    /// Out of memory. Nothing was written.
     Memory,
 }
 

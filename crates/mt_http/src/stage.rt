@@ -114,6 +114,16 @@ impl Framer {
         matches!(self.stage, Stage::Over(_))
     }
 
+    /// How the body ended, if it has.
+    pub(crate) fn ending(&self) -> Option<Ending>
+        ensures { result ≡ ended self.now.stage }
+    {
+        match self.stage {
+            Stage::Over(ending) => Some(ending),
+            _ => None,
+        }
+    }
+
     // No byte is a byte of the body any more.
     fn end(&mut self, ending: Ending)
         ensures { self.new ≡ over self.old ending }

@@ -1,13 +1,17 @@
 //! The body of a message as a source.
-ghost use Rattle.std.specs.Prelude.{◌≡◌, ◌<◌, ◌≤◌, ℕ, length};
+ghost use Rattle.std.specs.Prelude.{◌≡◌, ◌<◌, ◌≤◌, ℕ, length, IfNone};
+ghost use Rattle.mt_base.specs.Counts.{NeverFell, Rose};
 ghost use Rattle.mt_http.specs.Body.{data_left, ended, first_state, most_left};
-ghost use Rattle.mt_http.specs.BodyReading.{IsShorter, Reaches, Streams, after_body, body_left};
+ghost use Rattle.mt_http.specs.BodyReading.{Finished, IsShorter, Reaches, Streams, after_body, body_left};
 
 use crate::framing::Framing;
 use crate::head::{ByteRead, read_byte};
 use crate::message::{Ending, Head};
 use crate::stage::{Framer, Stage};
 use mt_edge::{ReadStep, Source};
+
+/// The bytes of a body that are dropped at once.
+const DROPPED: usize = 4_096;
 
 /// What comes next of a body.
 #[derive(Clone, Copy)]
@@ -86,6 +90,23 @@ pub(crate) fn read_framed<S: Source>(
     }
 }
 
+// Reads the rest of a body and drops it, and tells how it ended.
+fn drop_rest<S: Source>(source: &mut S, framer: &mut Framer) -> Option<Ending>
+    ensures ended { Finished framer.old (S.left source.old) result framer.new (S.left source.new) }
+    ensures failed { IfNone result (Rose (S.read_faults source.old) (S.read_faults source.new)) }
+    ensures faults { NeverFell (S.read_faults source.old) (S.read_faults source.new) }
+    ensures stays { S.source_stays source.old source.new }
+{
+    let mut dropped = [0; DROPPED];
+    'rest: loop {
+        match read_framed(source, framer, &mut dropped) {
+            ReadStep::Took(_) => {}
+            ReadStep::End => return framer.ending(),
+            ReadStep::Failed => return None,
+        }
+    }
+}
+
 /// The body of a message, read from the source that stands at its first byte. It is a source of the body's bytes,
 /// never reads its source past the body, holds at most one chunk line and takes no memory.
 #[derive(Drop)]
@@ -110,10 +131,19 @@ impl<'a, S: Source> BodyStream<'a, S> {
     pub fn ending(&self) -> Option<Ending>
         ensures { result ≡ ended self.now.framer.stage }
     {
-        match self.framer.stage() {
-            Stage::Over(ending) => Some(ending),
-            _ => None,
-        }
+        self.framer.ending()
+    }
+
+    /// Reads the rest of the body and drops it, and tells how the body ended: the source stands behind it. `None` where
+    /// the source failed; the rest of the body is still to be read. It takes no memory.
+    pub fn finish(&mut self) -> Option<Ending>
+        ensures ended { Finished self.old.framer (S.left self.old.source.now) result self.new.framer (S.left self.new.source.now) }
+        ensures failed { IfNone result (Rose (S.read_faults self.old.source.now) (S.read_faults self.new.source.now)) }
+        ensures faults { NeverFell (S.read_faults self.old.source.now) (S.read_faults self.new.source.now) }
+        ensures source { self.new.source.ghost_name ≡ self.old.source.ghost_name }
+        ensures stays { S.source_stays self.old.source.now self.new.source.now }
+    {
+        drop_rest(self.source, &mut self.framer)
     }
 }
 

@@ -9,7 +9,7 @@ use Rattle.httpdate.specs.declared.parts.Parts.{Parts}
 use Rattle.httpdate.specs.Valid.{IsValid}
 use Rattle.httpdate.specs.Text.{two_digits, four_digits, day_name, month_name, time_of_day, imf_fixdate}
 use Rattle.mt_ident.specs.Dates.{parts_of, http_date_text, iso_time_text}
-use Rattle.mt_ident.specs.declared.dates.TheConstants.{LAST_MOMENT}
+use Rattle.mt_base.specs.declared.limits.TheConstants.{LAST_MOMENT}
 use Rattle.mt_ident.proofs.Calendar.{days_in_month-few}
 use Rattle.mt_ident.proofs.Moments.{IsValid-parts_of}
 

@@ -9,7 +9,7 @@ use Rattle.httpdate.specs.Date.{unix_secs, IsPartsText, IsDateText, date_text}
 use Rattle.httpdate.proofs.CalendarLemmas.{days_from_civil_bound}
 use Rattle.httpdate.proofs.Theorems.{unix_secs_injective, IsDateText_unique}
 use Rattle.mt_ident.specs.Dates.{parts_of, http_date_text, IsHttpDate}
-use Rattle.mt_ident.specs.declared.dates.TheConstants.{LAST_MOMENT}
+use Rattle.mt_base.specs.declared.limits.TheConstants.{LAST_MOMENT}
 use Rattle.mt_ident.proofs.Calendar.{IsCivilDate-from_day, date_of_day-is}
 
 pub IsValid-parts_of : (moment : ℕ) → moment ≤ LAST_MOMENT → IsValid (parts_of moment)

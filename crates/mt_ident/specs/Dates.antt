@@ -5,7 +5,7 @@ use Rattle.httpdate.specs.Date.{IsPartsText}
 use Rattle.httpdate.specs.Text.{two_digits, four_digits, imf_fixdate, time_of_day}
 use Rattle.httpdate.specs.declared.parts.Parts.{Parts}
 use Rattle.mt_ident.specs.declared.dates.CivilDate.{CivilDate}
-use Rattle.mt_ident.specs.declared.dates.TheConstants.{LAST_MOMENT}
+use Rattle.mt_base.specs.declared.limits.TheConstants.{LAST_MOMENT}
 
 -- the next day of the calendar
 abbrev pub next_date : CivilDate → CivilDate

@@ -8,9 +8,7 @@ ghost use Rattle.mt_ident.specs.Dates.{IsHttpDate, date_of_day, http_date_text, 
 use httpdate::HttpDate;
 use jiff::ToSpan;
 use jiff::civil::Date;
-
-/// The greatest moment, the last second of the year 9999.
-pub const LAST_MOMENT: u64 = 253_402_300_799;
+use mt_base::LAST_MOMENT;
 
 /// The seconds of a day.
 const DAY: u64 = 86_400;
@@ -69,7 +67,7 @@ pub fn iso_time(moment: u64) -> [u8; 24]
     ]
 }
 
-/// The date so many days after 1 January 1970.
+// The date so many days after 1 January 1970.
 fn date_of(days: u32) -> CivilDate
     requires { days ≤ LAST_MOMENT / DAY }
     ensures date { result ≡ date_of_day days }
@@ -85,7 +83,7 @@ fn date_of(days: u32) -> CivilDate
     }
 }
 
-/// The same, as jiff has it.
+// The same, as jiff has it.
 fn jiff_date(days: u32) -> Date
     requires { days ≤ LAST_MOMENT / DAY }
     ensures { epoch_day result ≡ pos days }
@@ -94,7 +92,7 @@ fn jiff_date(days: u32) -> Date
     start.checked_add((days as i64).days()).unwrap()
 }
 
-/// A number below 100 in two digits.
+// A number below 100 in two digits.
 fn two_digits(n: u8) -> [u8; 2]
     requires { n < 100 }
     ensures { result ≡ two_digits n }
@@ -102,7 +100,7 @@ fn two_digits(n: u8) -> [u8; 2]
     [b'0' + n / 10, b'0' + n % 10]
 }
 
-/// A number below 10,000 in four digits.
+// A number below 10,000 in four digits.
 fn four_digits(n: u16) -> [u8; 4]
     requires { n < 10000 }
     ensures { result ≡ four_digits n }

@@ -50,7 +50,7 @@ pub fn md5_read(text: &[u8]) -> Option<[u8; 16]>
     Some(front(&out))
 }
 
-/// The digest in front of what a decoder had room for.
+// The digest in front of what a decoder had room for.
 fn front(decoded: &[u8; 18]) -> [u8; 16]
     ensures { result ≡ take DIGEST_SIZE decoded.now }
 {

@@ -2,14 +2,12 @@
 ghost use Rattle.std.specs.Prelude.{◌≡◌, ◌<◌, ◌^◌, ◌↔◌, ℕ, All, IsAscii, IsTrue, Some};
 ghost use Rattle.mt_ident.specs.Identifiers.{IsKind, IsIdentifier, IsIdentifierByte, identifier_text, identifier_number};
 
+use mt_base::NUMBERS_END;
 use std::str;
 use uuid::Uuid;
 
 /// The greatest kind: 1 is an object's, 2 a job's, 3 an output's and 4 an upload's.
 const LAST_KIND: u8 = 4;
-
-/// Numbers of identifiers are below this.
-const NUMBER_END: u64 = 1 << 62;
 
 /// The variant's bit of RFC 9562, section 4.1, above the number in the last 64 bits.
 const VARIANT: u64 = 1 << 63;
@@ -51,17 +49,17 @@ pub fn uuid_number(kind: u8, text: &[u8]) -> Option<u64>
     }
 }
 
-/// Whether a text is that of this identifier.
+// Whether a text is that of this identifier.
 fn is_identifier(kind: u8, number: u64, text: &[u8]) -> bool
     ensures { IsTrue result ↔ IsIdentifier kind number text.now }
 {
-    if kind == 0 || kind > LAST_KIND || number >= NUMBER_END {
+    if kind == 0 || kind > LAST_KIND || number >= NUMBERS_END {
         return false;
     }
     uuid_text(kind, number).as_slice() == text
 }
 
-/// The last 63 bits of a UUID in any of its forms, without the variant's bit.
+// The last 63 bits of a UUID in any of its forms, without the variant's bit.
 fn last_bits(text: &[u8]) -> Option<u64>
     ensures { (kind n : ℕ) → IsIdentifier kind n text.now → result ≡ Some n }
 {

@@ -1,11 +1,12 @@
-mod Added
+pub mod Added
 pub mod Appended
 mod Fronts
 pub mod Laying
 mod Made
+pub mod Others
 pub mod Places
 pub mod Records
-mod Running
+pub mod Running
 pub mod Sizes
 pub mod Standing
 pub mod Staged

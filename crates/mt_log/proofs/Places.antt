@@ -9,7 +9,7 @@ use Rattle.std.proofs.lemmas.List.Concat.{flat_map-append}
 use Rattle.std.proofs.lemmas.Nat.{from_be_bytes-to_be_bytes_4}
 use Rattle.mt_log.specs.LogImage.{AllFit, Holds, head_of, log_size, magic_of, record_of}
 use Rattle.mt_log.specs.LogState.{next_place}
-use Rattle.mt_log.specs.Places.{IsPlace, end_from, end_of, first_of, from_at, from_place, payload_at}
+use Rattle.mt_log.specs.Places.{IsPlace, end_from, end_of, first_payload, from_at, from_place, payload_at}
 use Rattle.mt_log.proofs.Records.{length-head_of}
 use Rattle.mt_log.proofs.Sizes.{log_size-cons, log_size-holds}
 use Rattle.mt_log.proofs.Walks.{length-magic}
@@ -74,7 +74,7 @@ from_place-append place ps qs q rest is =
     ∙ from_at-end 8 at.earlier ((q ∷ rest) ++ qs) ∙ from_here (end_from 8 at.earlier) ((q ∷ rest) ++ qs)
 
 pub payload_at-append : (place : ℕ) (ps qs : List (List ℕ)) → IsPlace place ps → payload_at place (ps ++ qs) ≡ payload_at place ps
-payload_at-append place ps qs at = ap first_of (from_place-append place ps qs at.payload at.more at.is ∙ sym (ap (λ l. l ++ qs) at.is)) ∙ ap first_of (ap (λ l. l ++ qs) at.is) ∙ sym (ap first_of at.is)
+payload_at-append place ps qs at = ap first_payload (from_place-append place ps qs at.payload at.more at.is ∙ sym (ap (λ l. l ++ qs) at.is)) ∙ ap first_payload (ap (λ l. l ++ qs) at.is) ∙ sym (ap first_payload at.is)
 
 -- the record behind one
 pub from_place-next : (place : ℕ) (ps : List (List ℕ)) (q : List ℕ) (rest : List (List ℕ)) → from_place place ps ≡ q ∷ rest → from_place (next_place place (length q)) ps ≡ rest
@@ -110,7 +110,7 @@ fit_last (q ∷ ps) p qs fit = fit_last ps p qs fit.1
 pub some_place : (place : ℕ) (ps : List (List ℕ)) → 0 < length (payload_at place ps) → IsPlace place ps
 some_place place ps some = by (from_place place ps) refl some
   where
-    by : (l : List (List ℕ)) → from_place place ps ≡ l → 0 < length (first_of l) → IsPlace place ps
+    by : (l : List (List ℕ)) → from_place place ps ≡ l → 0 < length (first_payload l) → IsPlace place ps
     by [] is some = absurd (omega arith)
     by (p ∷ more) is some = record { payload = p; more = more; is = is }
 

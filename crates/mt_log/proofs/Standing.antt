@@ -4,7 +4,7 @@ use Rattle.mt_disk.specs.Files.{Files, contents}
 use Rattle.mt_disk.specs.CrashModel.{LeavesOnly, OnlyRead}
 use Rattle.mt_disk.proofs.Moments.{leaves_now}
 use Rattle.mt_log.specs.LogImage.{Holds, IsLogOf, IsBeforeOrAfter, log_size, payloads, payloads_by, payloads_of}
-use Rattle.mt_log.specs.LogState.{LogState, Stands, told}
+use Rattle.mt_log.specs.LogState.{IsThere, LogState, Stands, told}
 use Rattle.mt_log.proofs.Appended.{payloads_chosen}
 use Rattle.mt_log.proofs.Sizes.{log_size-holds}
 use Rattle.mt_log.proofs.Told.{mapped_some}
@@ -43,14 +43,18 @@ pub record TellsLog (seen : Option Files) (log : LogState) (ps : List (List ℕ)
   pub is : seen ≡ Some files
   pub holds : Holds log.is_old (contents files log.file) log.gate ps
 
-pub tells_log : {D : Type 0} (seen : D → Option Files) (may_leave : D → Files → Type 0) (disk : D) (log : LogState) → Stands seen may_leave disk log → log.closed ≡ false
+-- a log that stands is there
+pub stands_there : {D : Type 0} (seen : D → Option Files) (may_leave : D → Files → Type 0) (disk : D) (log : LogState) → Stands seen may_leave disk log → IsThere seen disk log
+stands_there seen may_leave disk log stands is_open files is = (stands is_open files is).1
+
+pub tells_log : {D : Type 0} (seen : D → Option Files) (disk : D) (log : LogState) → IsThere seen disk log → log.closed ≡ false
     → (ps : List (List ℕ)) → told (seen disk) ≡ Some ps → TellsLog (seen disk) log ps
-tells_log seen may_leave disk log stands is_open ps is =
+tells_log seen disk log there is_open ps is =
     let from = mapped_some payloads_of (seen disk) ps is in
     record {
       files = from.0;
       is = from.1;
-      holds = subst (λ l. Holds log.is_old (contents from.0 log.file) log.gate l) from.2 (stands is_open from.0 from.1).1.holds;
+      holds = subst (λ l. Holds log.is_old (contents from.0 log.file) log.gate l) from.2 (there is_open from.0 from.1).holds;
     }
 
 -- reading leaves a log as it stands

@@ -2,7 +2,7 @@
 use Rattle.std.specs.Prelude.{◌≡◌, ◌≢◌, ◌<◌, ◌≤◌, ℕ, ◌+◌, Bool, false, List, [], ◌∷◌, ◌++◌, Option, Some, Ok, option_map}
 use Rattle.std.specs.Option.{ForSome}
 use Rattle.mt_disk.specs.declared.disk.FileNo.{FileNo}
-use Rattle.mt_disk.specs.Files.{Files}
+use Rattle.mt_disk.specs.Files.{Files, contents, with_contents}
 use Rattle.mt_disk.specs.CrashModel.{Only}
 use Rattle.mt_log.specs.LogImage.{record_head, payloads_any, payloads_of, IsLogOf, SameLog}
 
@@ -38,6 +38,14 @@ with_record log payload = record log { gate = next_place log.gate payload }
 -- is this one.
 abbrev pub Stands : {D : Type 0} → (D → Option Files) → (D → Files → Type 0) → D → LogState → Type 0
 Stands seen may_leave disk log = log.closed ≡ false → ForSome (seen disk) (λ files. Only files (may_leave disk) × IsLogOf files log.file log.gate log.is_old)
+
+-- What a reading asks: where the disk tells what it holds, its log is this one. A crash may leave another.
+abbrev pub IsThere : {D : Type 0} → (D → Option Files) → D → LogState → Type 0
+IsThere seen disk log = log.closed ≡ false → ForSome (seen disk) (λ files. IsLogOf files log.file log.gate log.is_old)
+
+-- where the disk tells what it holds before and after, all files but this one are as they were
+abbrev pub OthersStay : FileNo → Option Files → Option Files → Type 0
+OthersStay file old new = ForSome old (λ files. ForSome new (λ now. now ≡ with_contents files file (contents now file)))
 
 -- the list of payloads, where the disk tells it
 abbrev pub told : Option Files → Option (List (List ℕ))

@@ -22,13 +22,13 @@ from_at place at (p ∷ ps) = if at == place then p ∷ ps else from_at place (n
 unfoldable pub from_place : ℕ → List (List ℕ) → List (List ℕ)
 from_place place ps = from_at place (length log_magic) ps
 
-abbrev pub first_of : List (List ℕ) → List ℕ
-first_of [] = []
-first_of (p ∷ ps) = p
+abbrev pub first_payload : List (List ℕ) → List ℕ
+first_payload [] = []
+first_payload (p ∷ ps) = p
 
 -- the payload at a place; empty where no record stands there
 abbrev pub payload_at : ℕ → List (List ℕ) → List ℕ
-payload_at place ps = first_of (from_place place ps)
+payload_at place ps = first_payload (from_place place ps)
 
 -- a record stands at the place
 pub record IsPlace (place : ℕ) (ps : List (List ℕ)) : Type 0 where

@@ -6,7 +6,7 @@ ghost use Rattle.mt_disk.specs.CrashModel.{Only, LeavesOnly};
 ghost use Rattle.mt_log.specs.LogImage.{IsLogOf, IsBeforeOrAfter, payloads_of};
 ghost use Rattle.mt_log.specs.Stage.{HasLogAt};
 ghost use Rattle.mt_log.specs.Places.{end_of};
-ghost use Rattle.mt_log.specs.LogState.{Tells, Stands, HasRoom, LacksRoom, next_place, with_record, told, with_payload};
+ghost use Rattle.mt_log.specs.LogState.{OthersStay, Tells, Stands, HasRoom, LacksRoom, next_place, with_record, told, with_payload};
 
 use crate::log::{Log, RECORD_HEAD};
 use crate::publish::publish;
@@ -36,6 +36,7 @@ fn add_record<D: Disk>(
     requires fits { next_place gate (length payload.now) + 1 < 2 ^ 64 }
     ensures added { OnOk result (ForSome (D.seen disk.old) (λ files. (old : Bool) → IsLogOf files file gate old →
         Tells D.seen D.may_leave disk.new file (next_place gate (length payload.now)) old (payloads_of files ++ payload.now ∷ []))) }
+    ensures others { OnOk result (OthersStay file (D.seen disk.old) (D.seen disk.new)) }
     ensures told { OnOk result (is_some (D.seen disk.new) ≡ is_some (D.seen disk.old)) }
     ensures any_moment { ForSome (D.seen disk.old) (λ files.
         LeavesOnly D.moment D.left_since disk.old disk.new (IsBeforeOrAfter files (payload.now ∷ []))) }
@@ -58,6 +59,8 @@ impl Log {
         // The payload stands behind those from before.
         ensures at_end { IfOk result (λ place. ForSome (told (D.seen disk.old)) (λ ps. place ≡ end_of ps)) }
         ensures stands { Stands D.seen D.may_leave disk.new self.new }
+        // The other files stay.
+        ensures others { OnOk result (OthersStay self.old.file (D.seen disk.old) (D.seen disk.new)) }
 
         // A crash at any moment of the call leaves the payloads from before it, with the new one or without.
         ensures any_moment { self.old.closed ≡ false → ForSome (D.seen disk.old) (λ files.

@@ -5,7 +5,7 @@ ghost use Rattle.mt_base.specs.Counts.{HasCause};
 ghost use Rattle.mt_disk.specs.Files.{Files, contents, overwritten};
 ghost use Rattle.mt_disk.specs.CrashModel.{LeavesOnly};
 ghost use Rattle.mt_log.specs.LogImage.{IsBeforeOrAfter, head_of, payloads_of};
-ghost use Rattle.mt_log.specs.LogState.{Tells, next_place};
+ghost use Rattle.mt_log.specs.LogState.{OthersStay, Tells, next_place};
 ghost use Rattle.mt_log.specs.Stage.{changed, KeepsFront, Laid, Laying};
 
 use crate::log::RECORD_HEAD;
@@ -61,6 +61,7 @@ pub(crate) fn lay<D: Disk>(
     requires small { next_place next (length payload.now) + 1 < 2 ^ 64 }
     ensures taken { (old : Bool) (records : List (List ℕ)) → ForSome (D.seen disk.old) (λ files. Laying files file gate next old records) →
         OnOk result (ForSome (D.seen disk.new) (λ files. Laying files file gate (next_place next (length payload.now)) old (records ++ payload.now ∷ []))) }
+    ensures others { OnOk result (OthersStay file (D.seen disk.old) (D.seen disk.new)) }
     ensures told { OnOk result (is_some (D.seen disk.new) ≡ is_some (D.seen disk.old)) }
     ensures any_moment { ForSome (D.seen disk.old) (λ files. LeavesOnly D.moment D.left_since disk.old disk.new (KeepsFront files file gate)) }
     ensures cause { HasCause (D.faults disk.old) (D.faults disk.new) result }
@@ -81,12 +82,12 @@ fn seal<D: Disk>(disk: &mut D, file: FileNo, gate: u64, next: u64) -> Result<(),
     requires order { gate < next }
     ensures laid { (old : Bool) (records : List (List ℕ)) → ForSome (D.seen disk.old) (λ files. Laying files file gate next old records) →
         OnOk result (ForSome (D.seen disk.new) (λ files. Laid files file gate next old records)) }
+    ensures others { OnOk result (OthersStay file (D.seen disk.old) (D.seen disk.new)) }
     ensures told { OnOk result (is_some (D.seen disk.new) ≡ is_some (D.seen disk.old)) }
     ensures any_moment { ForSome (D.seen disk.old) (λ files. LeavesOnly D.moment D.left_since disk.old disk.new (KeepsFront files file gate)) }
     ensures cause { HasCause (D.faults disk.old) (D.faults disk.new) result }
 {
-    disk.write_at(file, next, &[0])?;
-    Ok(())
+    disk.write_at(file, next, &[0])
 }
 
 /// Makes the records of a run count.
@@ -101,12 +102,12 @@ pub(crate) fn finish<D: Disk>(
     requires order { gate < next }
     ensures added { OnOk result (ForSome (D.seen disk.old) (λ files. (old : Bool) (records : List (List ℕ)) → Laying files file gate next old records →
         Tells D.seen D.may_leave disk.new file next old (payloads_of files ++ records))) }
+    ensures others { OnOk result (OthersStay file (D.seen disk.old) (D.seen disk.new)) }
     ensures told { OnOk result (is_some (D.seen disk.new) ≡ is_some (D.seen disk.old)) }
     ensures any_moment { ForSome (D.seen disk.old) (λ files. (old : Bool) (records : List (List ℕ)) → Laying files file gate next old records →
         LeavesOnly D.moment D.left_since disk.old disk.new (IsBeforeOrAfter files records)) }
     ensures cause { HasCause (D.faults disk.old) (D.faults disk.new) result }
 {
     seal(disk, file, gate, next)?;
-    publish(disk, file, gate)?;
-    Ok(())
+    publish(disk, file, gate)
 }

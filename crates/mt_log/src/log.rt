@@ -2,11 +2,11 @@
 use mt_disk::FileNo;
 use std::marker::Model;
 
-/// The bytes that a log begins with.
-pub(crate) const MAGIC: u64 = 8;
+/// How many bytes a log begins with.
+pub(crate) const MAGIC_LEN: u64 = 8;
 
 /// The bytes of a log without a payload: the first eight and a gate.
-pub(crate) const EMPTY_LEN: u64 = MAGIC + 1;
+pub(crate) const EMPTY_LEN: u64 = MAGIC_LEN + 1;
 
 /// What a record has beside its payload: gate, length and MD5.
 pub(crate) const RECORD_HEAD: u64 = 1 + 4 + 16;
@@ -22,18 +22,18 @@ pub struct Log {
 }
 
 impl Model for Log {
-    ghost use Rattle.std.specs.Prelude.{◌<◌, ◌+◌, ◌^◌};
+    ghost use Rattle.std.specs.Prelude.{◌<◌, ◌≤◌, ◌+◌, ◌^◌};
     ghost use Rattle.mt_log.specs.LogState.{LogState};
 
     ghost Value = { LogState };
 
     ghost view = { λ l. record { file = l.file; gate = l.gate; limit = l.limit; closed = l.closed; is_old = l.is_old } };
 
-    ghost invariant = { λ l. l.gate + 1 < 2 ^ 64 };
+    ghost invariant = { λ l. (l.gate + 1 < 2 ^ 64) × (8 ≤ l.gate) };
 }
 
 impl Log {
-    ghost use Rattle.std.specs.Prelude.{◌≡◌, ◌↔◌, ◌+◌, ℕ, List, IsTrue, length};
+    ghost use Rattle.std.specs.Prelude.{◌≡◌, ◌↔◌, ◌+◌, ℕ, List, true, IsTrue, length};
     ghost use Rattle.mt_log.specs.Places.{from_place};
     ghost use Rattle.mt_log.specs.LogImage.{log_magic};
     ghost use Rattle.mt_log.specs.LogState.{HasRoom};
@@ -50,7 +50,7 @@ impl Log {
         ensures place { result ≡ length log_magic }
         ensures all { (ps : List (List ℕ)) → from_place result ps ≡ ps }
     {
-        MAGIC
+        MAGIC_LEN
     }
 
     /// Whether the limit lets in a payload of so many bytes.
@@ -60,6 +60,27 @@ impl Log {
         self.limit > self.gate
             && self.limit - self.gate > RECORD_HEAD
             && self.limit - self.gate - RECORD_HEAD > payload
+    }
+
+    /// How many bytes the log may get long, with its closed gate.
+    pub fn limit(&self) -> u64
+        ensures { result ≡ self.now.limit }
+    {
+        self.limit
+    }
+
+    /// Whether the log is of the old version. Such a log is read, and gets no run.
+    pub fn is_old(&self) -> bool
+        ensures { result ≡ self.now.is_old }
+    {
+        self.is_old
+    }
+
+    /// Closes the log: it takes no more, and is to be opened again. It makes no call of the disk.
+    pub fn close(&mut self)
+        ensures { self.new ≡ record self.old { closed = true } }
+    {
+        self.closed = true;
     }
 
     /// Whether the log takes no more, since a call of the disk failed. It is to be opened again.

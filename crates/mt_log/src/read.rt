@@ -1,9 +1,9 @@
 //! Reading payloads by their places.
-ghost use Rattle.std.specs.Prelude.{◌≡◌, ◌≢◌, ◌<◌, ◌≤◌, ◌+◌, ◌^◌, ℕ, List, [], ◌∷◌, false, Err, length, slice_range, IfOk, OnOk, OnErr, IsErrOf};
+ghost use Rattle.std.specs.Prelude.{◌≡◌, ◌≢◌, ◌<◌, ◌≤◌, ◌+◌, ℕ, List, [], ◌∷◌, false, Err, length, slice_range, IfOk, IfSome, IfNone, OnOk, OnErr, IsErrOf};
 ghost use Rattle.std.specs.Option.{ForSome};
 ghost use Rattle.mt_base.specs.Counts.{HasCause, Rose, NeverFell};
 ghost use Rattle.mt_disk.specs.CrashModel.{OnlyRead};
-ghost use Rattle.mt_log.specs.LogState.{Stands, next_place, told};
+ghost use Rattle.mt_log.specs.LogState.{IsThere, next_place, told};
 ghost use Rattle.mt_log.specs.Places.{IsPlace, from_place, payload_at};
 ghost use Rattle.mt_log.specs.declared.read.ReadFault.TheVariants.{Disk, Memory};
 
@@ -17,7 +17,7 @@ use std::alloc::AllocError;
 pub enum ReadFault {
     /// The disk has failed.
     Disk,
-    /// Memory was wanted.
+    /// Out of memory.
     Memory,
 }
 
@@ -38,18 +38,26 @@ impl From<AllocError> for ReadFault {
 }
 
 impl Log {
-    /// The place of the record behind one at this place with so many bytes of payload.
-    pub fn next(&self, place: u64, payload: u64) -> u64
-        requires { next_place place payload < 2 ^ 64 }
-        ensures place { result ≡ next_place place payload }
-        ensures next { (ps more : List (List ℕ)) (p : List ℕ) → from_place place ps ≡ p ∷ more → length p ≡ payload → from_place result ps ≡ more }
+    /// The place of the record behind one at this place with so many bytes of payload, or of the closed gate behind it.
+    /// `None` where that is past the closed gate: no such record stands there.
+    pub fn next(&self, place: u64, payload: u64) -> Option<u64>
+        ensures place { IfSome result (λ next. (next ≡ next_place place payload) × (next ≤ self.now.gate)) }
+        ensures past { IfNone result (self.now.gate < next_place place payload) }
+        ensures next { IfSome result (λ next. (ps more : List (List ℕ)) (p : List ℕ) → from_place place ps ≡ p ∷ more → length p ≡ payload → from_place next ps ≡ more) }
     {
-        place + RECORD_HEAD + payload
+        if place > self.gate {
+            return None;
+        }
+        let left = self.gate - place;
+        if left < RECORD_HEAD || left - RECORD_HEAD < payload {
+            return None;
+        }
+        Some(place + RECORD_HEAD + payload)
     }
 
-    // The length of the payload at a place.
-    fn payload_len<D: Disk>(&self, disk: &mut D, place: u64) -> Result<u32, DiskFault>
-        requires stands { Stands D.seen D.may_leave disk.old self.now }
+    /// The length of the payload at a place, in bytes. It takes no memory.
+    pub fn payload_len<D: Disk>(&self, disk: &mut D, place: u64) -> Result<u32, DiskFault>
+        requires there { IsThere D.seen disk.old self.now }
         requires is_open { self.now.closed ≡ false }
         requires place { ForSome (told (D.seen disk.old)) (λ ps. IsPlace place ps) }
         ensures len { IfOk result (λ n. ForSome (told (D.seen disk.old)) (λ ps. n ≡ length (payload_at place ps))) }
@@ -69,7 +77,7 @@ impl Log {
         from: u32,
         into: &mut [u8],
     ) -> Result<(), ReadFault>
-        requires stands { Stands D.seen D.may_leave disk.old self.now }
+        requires there { IsThere D.seen disk.old self.now }
         requires is_open { self.now.closed ≡ false }
         requires part { ForSome (told (D.seen disk.old)) (λ ps. from + length into.old ≤ length (payload_at place ps)) }
         ensures part { OnOk result (ForSome (told (D.seen disk.old)) (λ ps. into.new ≡ slice_range (payload_at place ps) from (from + length into.old))) }
@@ -96,7 +104,7 @@ impl Log {
         place: u64,
         into: &mut Vec<u8>,
     ) -> Result<(), ReadFault>
-        requires stands { Stands D.seen D.may_leave disk.old self.now }
+        requires there { IsThere D.seen disk.old self.now }
         requires is_open { self.now.closed ≡ false }
         requires place { ForSome (told (D.seen disk.old)) (λ ps. IsPlace place ps) }
         ensures payload { OnOk result (ForSome (told (D.seen disk.old)) (λ ps. into.new.items ≡ payload_at place ps)) }

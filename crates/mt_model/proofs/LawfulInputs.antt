@@ -24,7 +24,7 @@ use Rattle.mt_model.specs.Listing.{name_of}
 use Rattle.mt_model.specs.Names.{root_of_input}
 use Rattle.mt_model.specs.Rows.{Rows, at, is_directory, object_at, object_in}
 use Rattle.mt_model.specs.Sound.{Sound, before}
-use Rattle.mt_model.specs.Tasks.{is_task_of, may_begin, places}
+use Rattle.mt_model.specs.Tasks.{is_task_of, may_begin, task_count}
 use Rattle.mt_model.proofs.LawfulJobs.{KeepsJob}
 use Rattle.mt_model.proofs.RowLaws.{not_refused}
 use Rattle.mt_model.proofs.Words.{input_is_component}
@@ -112,8 +112,8 @@ module _ {B : Type 0} where
   feed_longer j i k (suc phase) = omega arith
 
   task_grown : (j : Job B) (i : Item B) (open_yet : j.ended ≡ false) (k phase place : ℕ) (kind : PhaseKind)
-      → (may_begin (before j k) phase kind && nat_lt place (places kind (feed (before j k) phase))) ≡ true
-      → (may_begin (before (with_input j i) k) phase kind && nat_lt place (places kind (feed (before (with_input j i) k) phase))) ≡ true
+      → (may_begin (before j k) phase kind && nat_lt place (task_count kind (feed (before j k) phase))) ≡ true
+      → (may_begin (before (with_input j i) k) phase kind && nat_lt place (task_count kind (feed (before (with_input j i) k) phase))) ≡ true
   task_grown j i open_yet k phase place Map e =
       let within : place < length (feed (before j k) phase) = ltb-true place (length (feed (before j k) phase)) e in
       let more = feed_longer j i k phase in

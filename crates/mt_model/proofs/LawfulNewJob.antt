@@ -21,7 +21,7 @@ use Rattle.mt_types.specs.declared.object.Object.{Object}
 use Rattle.mt_model.specs.JobSteps.{archive_names, new_job, with_folders}
 use Rattle.mt_model.specs.Lawful.{HasFolders, HasRoot, IsBelow, LawfulJob, LawfulJobs, LawfulRows, fits_below, fits_in_folder, job_named}
 use Rattle.mt_model.specs.Feed.{items_of}
-use Rattle.mt_model.specs.Limits.{most_commands}
+use Rattle.mt_types.specs.declared.limits.TheConstants.{MOST_COMMANDS}
 use Rattle.mt_model.specs.Names.{in_job_folder, job_folder, job_name, job_stor, number_at}
 use Rattle.mt_model.specs.Rows.{Rows, IsTree, at, is_path, is_directory, object_in, with_row}
 use Rattle.mt_model.specs.Sound.{Sound}
@@ -106,7 +106,7 @@ pub sorted_nil : IsStrictlySortedBy nat_cmp []
 unfolding IsStrictlySortedBy
 sorted_nil = tt
 
-module _ {B : Type 0} (count : ℕ) (rows : Rows B) (jobs : List (Job B)) (law : LawfulRows count rows) (lawful : LawfulJobs count rows jobs) (room : count < most_commands) (document : JobDocument) (moment : ℕ) where
+module _ {B : Type 0} (count : ℕ) (rows : Rows B) (jobs : List (Job B)) (law : LawfulRows count rows) (lawful : LawfulJobs count rows jobs) (room : count < MOST_COMMANDS) (document : JobDocument) (moment : ℕ) where
   abbrev n : ℕ
   n = number_at count 0
 

@@ -18,7 +18,7 @@ use Rattle.mt_types.specs.declared.upload.Stage.TheVariants.{Aborted}
 use Rattle.mt_model.specs.CommandStep.{allowed, change, linked, put_object, step}
 use Rattle.mt_model.specs.JobSteps.{add_inputs_refusal, done_at, finish_refusal, input_refusal, running_refusal, with_end, with_lines}
 use Rattle.mt_model.specs.Lawful.{HasFolders, IsBelow, Lawful, LawfulJob, LawfulRows, LawfulUpload}
-use Rattle.mt_model.specs.Limits.{most_commands}
+use Rattle.mt_types.specs.declared.limits.TheConstants.{MOST_COMMANDS}
 use Rattle.mt_model.specs.Names.{number_at}
 use Rattle.mt_model.specs.Rows.{Rows, at, first_rows, is_path, link_refusal, object_at, object_in, with_row, without_row}
 use Rattle.mt_model.specs.State.{State, first_state, with_job}
@@ -116,7 +116,7 @@ module _ {B : Type 0} (size : B → ℕ) (s : State B) (law : Lawful s) where
       (LawfulRows-without_row (s.count + 1) s.rows rows_later path (IsTree-remove s.rows path law.rows.tree parts.1))
       (jobs-without_row s.rows path law.rows.tree (not_refused _ _ parts.0))
 
-  pub Lawful-new_job : (document : JobDocument) (moment : ℕ) → s.count < most_commands → Lawful (step s (NewJob document moment))
+  pub Lawful-new_job : (document : JobDocument) (moment : ℕ) → s.count < MOST_COMMANDS → Lawful (step s (NewJob document moment))
   unfolding change step
   Lawful-new_job document moment room = record {
     rows = LawfulRows-later s.count (s.count + 1) _ later (LawfulRows-new_job s.count s.rows s.jobs law.rows law.jobs room document moment);

@@ -8,6 +8,9 @@ pub mod ResolveWith
 pub mod StepsWith
 pub mod MeaningWith
 pub mod Agree
+pub mod Held
+pub mod Keeping
+pub mod Replays
 pub mod Words
 pub mod LawfulRows
 pub mod LawfulJobs

@@ -10,7 +10,7 @@ use Rattle.mt_types.specs.declared.job.TraceEntry.{TraceEntry}
 use Rattle.mt_model.specs.Feed.{items_in}
 use Rattle.mt_model.specs.Meaning.{IsEachTaskOnce, Means}
 use Rattle.mt_model.proofs.Maps.{sum_by-map}
-use Rattle.mt_model.proofs.TasksWith.{items_in-with, places_cases}
+use Rattle.mt_model.proofs.TasksWith.{items_in-with, task_count_cases}
 
 All-map : {X Y : Type 0} (P : X → Type 0) (Q : Y → Type 0) (g : X → Y) → ((x : X) → P x → Q (g x)) → (xs : List X) → All P xs → All Q (map g xs)
 All-map P Q g each [] a = All-nil Q
@@ -21,7 +21,7 @@ module _ {A B : Type 0} (f : A → B) where
   once-with kind items es once k =
       sum_by-map (trace_entry_with f) (λ e. cond (e.place == k) 1 0) es
       ∙ once k
-      ∙ ap (λ n. cond (nat_lt k n) 1 0) (sym (places_cases f kind items))
+      ∙ ap (λ n. cond (nat_lt k n) 1 0) (sym (task_count_cases f kind items))
 
   module _ (given : ℕ → Phase → List (Item A) → TraceEntry A → Type 0) (given' : ℕ → Phase → List (Item B) → TraceEntry B → Type 0)
       (each : (n : ℕ) (p : Phase) (items : List (Item A)) (e : TraceEntry A) → given n p items e → given' n p (map (item_with f) items) (trace_entry_with f e)) where

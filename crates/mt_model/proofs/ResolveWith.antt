@@ -15,7 +15,7 @@ use Rattle.mt_types.specs.declared.task.TaskRecord.{TaskRecord}
 use Rattle.mt_types.specs.declared.task.TaskRecord.TheVariants.{Emit, Keep, Ref}
 use Rattle.mt_model.specs.Bodies.{resolved_with, rows_with, taken_with}
 use Rattle.mt_model.specs.Names.{is_task_place, paths_above}
-use Rattle.mt_model.specs.Resolve.{Committing, Taken, and_then, can_hold_object, fresh_place, given_on, is_object_at, kept, next_number, resolve, resolved, take_placed, take_record, take_records, take_reference, task_object, with_directory, with_parents}
+use Rattle.mt_model.specs.Resolve.{Committing, Taken, and_then, can_hold_object, fresh_place, with_output, is_object_at, kept, next_number, resolve, resolved, take_placed, take_record, take_records, take_reference, task_object, with_directory, with_parents}
 use Rattle.mt_model.specs.Rows.{Rows, at, is_directory, object_at, with_row}
 use Rattle.mt_model.proofs.Maps.{cond_ap, fold-with, map-append, same_function}
 use Rattle.mt_model.proofs.RowsWith.{is_directory-with, is_some-map, is_there-with, object_at-with, with_row-with}
@@ -48,8 +48,8 @@ module _ {A B : Type 0} (f : A → B) where
       ap (λ rows. record (taken_with f t) { rows = with_row rows place (entry.Object (task_object (next_number c t) (f body) c.moment)); made = t.made + 1 }) (parents-with t.rows place c.moment)
       ∙ ap (λ rows. record (taken_with f t) { rows = rows; made = t.made + 1 }) (with_row-with f (with_parents t.rows place c.moment) place (entry.Object (task_object (next_number c t) body c.moment)))
 
-  given-with : (c : Committing) (name : AccountPath) (body : A) (reducer : Option ℕ) (t : Taken A) → given_on c name (f body) reducer (taken_with f t) ≡ taken_with f (given_on c name body reducer t)
-  given-with c name body reducer t =
+  with_output-with : (c : Committing) (name : AccountPath) (body : A) (reducer : Option ℕ) (t : Taken A) → with_output c name (f body) reducer (taken_with f t) ≡ taken_with f (with_output c name body reducer t)
+  with_output-with c name body reducer t =
       ap (λ items. record (taken_with f t) { items = items }) (sym (map-append (item_with f) t.items (record { name = name; root = c.root; body = body; reducer = reducer } ∷ [])))
 
   placed-with : (c : Committing) (place : AccountPath) (body : A) (t : Taken A) → take_placed c place (f body) (taken_with f t) ≡ result_with (taken_with f) (take_placed c place body t)
@@ -64,15 +64,15 @@ module _ {A B : Type 0} (f : A → B) where
 
   reference-with : (c : Committing) (name : AccountPath) (t : Taken A) (o : Option (Object A)) → take_reference c name (taken_with f t) (option_map (object_with f) o) ≡ result_with (taken_with f) (take_reference c name t o)
   reference-with c name t None = refl
-  reference-with c name t (Some object) = ap Ok (given-with c name object.body None t)
+  reference-with c name t (Some object) = ap Ok (with_output-with c name object.body None t)
 
   record-with : (c : Committing) (t : Taken A) (r : TaskRecord A) → take_record c (taken_with f t) (record_with f r) ≡ result_with (taken_with f) (take_record c t r)
   record-with c t (Emit None reducer body) =
-      ap (λ x. Ok (given_on c (fresh_place c t) (f body) reducer x)) (kept-with c (fresh_place c t) body t)
-      ∙ ap Ok (given-with c (fresh_place c t) body reducer (kept c (fresh_place c t) body t))
+      ap (λ x. Ok (with_output c (fresh_place c t) (f body) reducer x)) (kept-with c (fresh_place c t) body t)
+      ∙ ap Ok (with_output-with c (fresh_place c t) body reducer (kept c (fresh_place c t) body t))
   record-with c t (Emit (Some place) reducer body) =
-      ap (and_then (λ x. Ok (given_on c place (f body) reducer x))) (placed-with c place body t)
-      ∙ and_then-with (λ x. Ok (given_on c place body reducer x)) (λ x. Ok (given_on c place (f body) reducer x)) (λ x. ap Ok (given-with c place body reducer x)) (take_placed c place body t)
+      ap (and_then (λ x. Ok (with_output c place (f body) reducer x))) (placed-with c place body t)
+      ∙ and_then-with (λ x. Ok (with_output c place body reducer x)) (λ x. Ok (with_output c place (f body) reducer x)) (λ x. ap Ok (with_output-with c place body reducer x)) (take_placed c place body t)
   record-with c t (Keep place body) = placed-with c place body t
   record-with c t (Ref name) = ap (take_reference c name (taken_with f t)) (object_at-with f t.rows name) ∙ reference-with c name t (object_at t.rows name)
 

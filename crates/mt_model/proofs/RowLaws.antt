@@ -19,7 +19,7 @@ use Rattle.mt_types.specs.declared.object.Entry.{Entry}
 use Rattle.mt_types.specs.declared.object.Entry.TheVariants as entry
 use Rattle.mt_types.specs.declared.object.Object.{Object}
 use Rattle.mt_types.specs.declared.refusal.Refusal.{Refusal}
-use Rattle.mt_model.specs.Rows.{Rows, is_path, is_above, is_child, is_root, first_of, refuse_if, at, with_row, without_row, is_directory, children, directory_refusal, above_refusal, parent_refusal, put_refusal, make_directory_refusal, remove_refusal, link_refusal, IsTree, first_rows}
+use Rattle.mt_model.specs.Rows.{Rows, is_path, is_above, is_child, is_root, first_refusal, refuse_if, at, with_row, without_row, is_directory, children, directory_refusal, above_refusal, parent_refusal, put_refusal, make_directory_refusal, remove_refusal, link_refusal, IsTree, first_rows}
 use Rattle.mt_model.proofs.Entries.{lookup-insert_entry, sorted-insert_entry, sorted-remove_entry}
 
 equal : (r : Ordering) → is_eq r ≡ true → r ≡ Equal
@@ -114,7 +114,7 @@ module _ {B : Type 0} where
     }
 
 -- what a test that refuses nothing has seen
-pub neither : (first later : Option Refusal) → first_of first later ≡ None → (first ≡ None) × (later ≡ None)
+pub neither : (first later : Option Refusal) → first_refusal first later ≡ None → (first ≡ None) × (later ≡ None)
 neither None later e = (refl, e)
 neither (Some r) later e = cc
 

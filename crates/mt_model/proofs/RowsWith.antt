@@ -16,7 +16,7 @@ use Rattle.mt_types.specs.declared.object.Entry.TheVariants as entry
 use Rattle.mt_types.specs.declared.refusal.Refusal.TheVariants as refusal
 use Rattle.mt_model.specs.Bodies.{rows_with, pair_with}
 use Rattle.mt_model.specs.Listing.{is_from, listing, result_set_size}
-use Rattle.mt_model.specs.Rows.{Rows, at, with_row, without_row, is_directory, is_path, is_child, is_root, object_in, object_at, children, directory_refusal, above_refusal, parent_refusal, put_refusal, make_directory_refusal, remove_refusal, source_refusal, link_refusal, first_of, refuse_if}
+use Rattle.mt_model.specs.Rows.{Rows, at, with_row, without_row, is_directory, is_path, is_child, is_root, object_in, object_at, children, directory_refusal, above_refusal, parent_refusal, put_refusal, make_directory_refusal, remove_refusal, source_refusal, link_refusal, first_refusal, refuse_if}
 use Rattle.mt_model.proofs.Maps.{cond_ap, filter-map, length-map, take-map}
 
 module _ {K X Y : Type 0} (g : X → Y) where
@@ -99,18 +99,18 @@ module _ {A B : Type 0} (f : A → B) where
 
   pub put_refusal-with : (rows : Rows A) (p : AccountPath) → put_refusal (rows_with f rows) p ≡ put_refusal rows p
   put_refusal-with rows p =
-      ap (λ r. first_of (refuse_if (is_root p) refusal.RootDirectory) (first_of r (refuse_if (is_directory (at (rows_with f rows) p)) refusal.DirectoryOperation))) (above-with rows (parent_of p))
-      ∙ ap (λ b. first_of (refuse_if (is_root p) refusal.RootDirectory) (first_of (parent_refusal rows p) (refuse_if b refusal.DirectoryOperation))) (is_directory-with rows p)
+      ap (λ r. first_refusal (refuse_if (is_root p) refusal.RootDirectory) (first_refusal r (refuse_if (is_directory (at (rows_with f rows) p)) refusal.DirectoryOperation))) (above-with rows (parent_of p))
+      ∙ ap (λ b. first_refusal (refuse_if (is_root p) refusal.RootDirectory) (first_refusal (parent_refusal rows p) (refuse_if b refusal.DirectoryOperation))) (is_directory-with rows p)
 
   pub make_directory_refusal-with : (rows : Rows A) (p : AccountPath) → make_directory_refusal (rows_with f rows) p ≡ make_directory_refusal rows p
   make_directory_refusal-with rows p =
-      ap (λ b. first_of (refuse_if b refusal.EntityExists) (parent_refusal (rows_with f rows) p)) (is_there-with rows p)
-      ∙ ap (λ r. first_of (refuse_if (is_some (at rows p)) refusal.EntityExists) r) (above-with rows (parent_of p))
+      ap (λ b. first_refusal (refuse_if b refusal.EntityExists) (parent_refusal (rows_with f rows) p)) (is_there-with rows p)
+      ∙ ap (λ r. first_refusal (refuse_if (is_some (at rows p)) refusal.EntityExists) r) (above-with rows (parent_of p))
 
   pub remove_refusal-with : (rows : Rows A) (p : AccountPath) → remove_refusal (rows_with f rows) p ≡ remove_refusal rows p
   remove_refusal-with rows p =
-      ap (λ b. first_of (refuse_if (is_root p) refusal.RootDirectory) (first_of (refuse_if (not b) refusal.NotFound) (refuse_if (not (length (children (rows_with f rows) p) == 0)) refusal.DirectoryNotEmpty))) (is_there-with rows p)
-      ∙ ap (λ n. first_of (refuse_if (is_root p) refusal.RootDirectory) (first_of (refuse_if (not (is_some (at rows p))) refusal.NotFound) (refuse_if (not (n == 0)) refusal.DirectoryNotEmpty))) (result_set_size-with rows p)
+      ap (λ b. first_refusal (refuse_if (is_root p) refusal.RootDirectory) (first_refusal (refuse_if (not b) refusal.NotFound) (refuse_if (not (length (children (rows_with f rows) p) == 0)) refusal.DirectoryNotEmpty))) (is_there-with rows p)
+      ∙ ap (λ n. first_refusal (refuse_if (is_root p) refusal.RootDirectory) (first_refusal (refuse_if (not (is_some (at rows p))) refusal.NotFound) (refuse_if (not (n == 0)) refusal.DirectoryNotEmpty))) (result_set_size-with rows p)
 
   source_cases : (o : Option (Entry A)) → source_refusal (option_map (entry_with f) o) ≡ source_refusal o
   source_cases None = refl
@@ -119,6 +119,6 @@ module _ {A B : Type 0} (f : A → B) where
 
   pub link_refusal-with : (rows : Rows A) (p source : AccountPath) → link_refusal (rows_with f rows) p source ≡ link_refusal rows p source
   link_refusal-with rows p source =
-      ap (λ o. first_of (source_refusal o) (put_refusal (rows_with f rows) p)) (at-with rows source)
-      ∙ ap (λ r. first_of r (put_refusal (rows_with f rows) p)) (source_cases (at rows source))
-      ∙ ap (first_of (source_refusal (at rows source))) (put_refusal-with rows p)
+      ap (λ o. first_refusal (source_refusal o) (put_refusal (rows_with f rows) p)) (at-with rows source)
+      ∙ ap (λ r. first_refusal r (put_refusal (rows_with f rows) p)) (source_cases (at rows source))
+      ∙ ap (first_refusal (source_refusal (at rows source))) (put_refusal-with rows p)

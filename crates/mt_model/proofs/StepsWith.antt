@@ -27,10 +27,11 @@ use Rattle.mt_model.specs.Bodies.{resolved_with, rows_with, state_with}
 use Rattle.mt_model.specs.CommandStep.{allowed, change, linked, outside_jobs, put_object, replay, step}
 use Rattle.mt_model.specs.Feed.{feed}
 use Rattle.mt_model.specs.JobSteps.{add_inputs_refusal, add_job, archive_bodies, archive_names, archive_object, bodies_of, close, close_refusal, commit, commit_refusal, committed, done_at, finish_refusal, has_large_assets, input_refusal, job_refusal, lacks_asset, new_job, new_job_refusal, resolve_task, running_refusal, task_root, with_archive_from, with_folders, with_line, with_lines, with_named}
-use Rattle.mt_model.specs.Limits.{most_asset_bytes, most_inputs, most_upload_bytes}
+use Rattle.mt_model.specs.Limits.{most_asset_bytes, most_inputs}
+use Rattle.mt_types.specs.declared.limits.TheConstants.{LARGEST_BODY}
 use Rattle.mt_model.specs.Names.{in_job_folder, job_folder, job_stor, number_at}
 use Rattle.mt_model.specs.Resolve.{Resolved, is_object_at, resolve}
-use Rattle.mt_model.specs.Rows.{Rows, first_of, object_at, put_refusal, refuse_if, with_row}
+use Rattle.mt_model.specs.Rows.{Rows, first_refusal, object_at, put_refusal, refuse_if, with_row}
 use Rattle.mt_model.specs.State.{State, job_at, upload_at, with_job, with_upload}
 use Rattle.mt_model.specs.Tasks.{is_committed, may_run, root_at}
 use Rattle.mt_model.specs.UploadSteps.{add_upload, commit_upload, commit_upload_refusal, ended_as, is_listed, is_open, listed, part_at, put_part, upload_object, upload_refusal, with_part}
@@ -71,7 +72,7 @@ module _ {A B : Type 0} (f : A → B) where
 
   upload_cases : (r : Upload A → Option Refusal) (r' : Upload B → Option Refusal) → ((u : Upload A) → r' (upload_with f u) ≡ r u) → (o : Option (Upload A)) → upload_refusal (option_map (upload_with f) o) r' ≡ upload_refusal o r
   upload_cases r r' each None = refl
-  upload_cases r r' each (Some u) = ap (first_of (refuse_if (not (is_open u.stage)) refusal.UploadState)) (each u)
+  upload_cases r r' each (Some u) = ap (first_refusal (refuse_if (not (is_open u.stage)) refusal.UploadState)) (each u)
 
   upload_refusal-with : (uploads : List (Upload A)) (number : ℕ) (r : Upload A → Option Refusal) (r' : Upload B → Option Refusal) → ((u : Upload A) → r' (upload_with f u) ≡ r u) → upload_refusal (upload_at (map (upload_with f) uploads) number) r' ≡ upload_refusal (upload_at uploads number) r
   upload_refusal-with uploads number r r' each = ap (λ o. upload_refusal o r') (upload_at-with uploads number) ∙ upload_cases r r' each (upload_at uploads number)
@@ -99,8 +100,8 @@ module _ {A B : Type 0} (f : A → B) where
 
   new_job_refusal-with : (size : B → ℕ) (rows : Rows A) (d : JobDocument) → new_job_refusal size (rows_with f rows) d ≡ new_job_refusal (λ a. size (f a)) rows d
   new_job_refusal-with size rows d =
-      ap (λ t. first_of (refuse_if (list_any t d.phases) refusal.NotFound) (refuse_if (list_any (has_large_assets size (rows_with f rows)) d.phases) refusal.AssetsTooLarge)) (same_function (lacks_asset (rows_with f rows)) (lacks_asset rows) (lacks-with rows))
-      ∙ ap (λ t. first_of (refuse_if (list_any (lacks_asset rows) d.phases) refusal.NotFound) (refuse_if (list_any t d.phases) refusal.AssetsTooLarge)) (same_function (has_large_assets size (rows_with f rows)) (has_large_assets (λ a. size (f a)) rows) (large-with size rows))
+      ap (λ t. first_refusal (refuse_if (list_any t d.phases) refusal.NotFound) (refuse_if (list_any (has_large_assets size (rows_with f rows)) d.phases) refusal.AssetsTooLarge)) (same_function (lacks_asset (rows_with f rows)) (lacks_asset rows) (lacks-with rows))
+      ∙ ap (λ t. first_refusal (refuse_if (list_any (lacks_asset rows) d.phases) refusal.NotFound) (refuse_if (list_any t d.phases) refusal.AssetsTooLarge)) (same_function (has_large_assets size (rows_with f rows)) (has_large_assets (λ a. size (f a)) rows) (large-with size rows))
 
   new_job-with : (rows : Rows A) (number : ℕ) (d : JobDocument) (moment : ℕ) → new_job (rows_with f rows) number d moment ≡ job_with f (new_job rows number d moment)
   new_job-with rows number d moment =
@@ -134,20 +135,20 @@ module _ {A B : Type 0} (f : A → B) where
 
   inputs_refusal-with : (lines : List InputLine) (j : Job A) → add_inputs_refusal lines (job_with f j) ≡ add_inputs_refusal lines j
   inputs_refusal-with lines j =
-      ap (λ n. first_of (input_refusal j) (refuse_if (nat_lt most_inputs (n + length j.missing + length lines)) refusal.TooManyInputs)) (length-map (item_with f) j.inputs)
+      ap (λ n. first_refusal (input_refusal j) (refuse_if (nat_lt most_inputs (n + length j.missing + length lines)) refusal.TooManyInputs)) (length-map (item_with f) j.inputs)
 
   -- ---- commits and ends
 
   commit_refusal-with : (phase place : ℕ) (j : Job A) → commit_refusal phase place (job_with f j) ≡ commit_refusal phase place j
   commit_refusal-with phase place j =
-      ap (λ b. first_of (running_refusal j) (first_of (refuse_if (not b) refusal.NotATask) (refuse_if (is_committed (map (trace_entry_with f) j.trace) phase place) refusal.AlreadyCommitted))) (may_run-with f j phase place)
-      ∙ ap (λ b. first_of (running_refusal j) (first_of (refuse_if (not (may_run j phase place)) refusal.NotATask) (refuse_if b refusal.AlreadyCommitted))) (is_committed-with f j.trace phase place)
+      ap (λ b. first_refusal (running_refusal j) (first_refusal (refuse_if (not b) refusal.NotATask) (refuse_if (is_committed (map (trace_entry_with f) j.trace) phase place) refusal.AlreadyCommitted))) (may_run-with f j phase place)
+      ∙ ap (λ b. first_refusal (running_refusal j) (first_refusal (refuse_if (not (may_run j phase place)) refusal.NotATask) (refuse_if b refusal.AlreadyCommitted))) (is_committed-with f j.trace phase place)
 
   finish_refusal-with : (j : Job A) → finish_refusal (job_with f j) ≡ finish_refusal j
-  finish_refusal-with j = ap (λ b. first_of (running_refusal j) (refuse_if (not b) refusal.NotComplete)) (waits_finish-with f j)
+  finish_refusal-with j = ap (λ b. first_refusal (running_refusal j) (refuse_if (not b) refusal.NotComplete)) (waits_finish-with f j)
 
   close_refusal-with : (cancelled : Bool) (j : Job A) → close_refusal cancelled (job_with f j) ≡ close_refusal cancelled j
-  close_refusal-with cancelled j = ap (λ b. first_of (running_refusal j) (refuse_if (not cancelled && not b) refusal.NotComplete)) (waits_finish-with f j)
+  close_refusal-with cancelled j = ap (λ b. first_refusal (running_refusal j) (refuse_if (not cancelled && not b) refusal.NotComplete)) (waits_finish-with f j)
 
   root-with : (j : Job A) (phase place : ℕ) → task_root (job_with f j) phase place ≡ task_root j phase place
   root-with j phase place =
@@ -212,10 +213,10 @@ module _ {A B : Type 0} (f : A → B) where
 
   commit_upload_refusal-with : (size : B → ℕ) (rows : Rows A) (numbers : List ℕ) (u : Upload A) → commit_upload_refusal size (rows_with f rows) numbers (upload_with f u) ≡ commit_upload_refusal (λ a. size (f a)) rows numbers u
   commit_upload_refusal-with size rows numbers u =
-      ap (λ t. first_of (refuse_if (not (list_all t (enumerate_from 0 numbers))) refusal.UploadPart) (first_of (refuse_if (nat_lt most_upload_bytes (sum_by (λ p. size p.body) (listed (map (part_with f) u.parts) numbers))) refusal.UploadTooLarge) (put_refusal (rows_with f rows) u.path))) (same_function (is_listed (map (part_with f) u.parts)) (is_listed u.parts) (is_listed-with u.parts))
-      ∙ ap (λ n. first_of (refuse_if (not (list_all (is_listed u.parts) (enumerate_from 0 numbers))) refusal.UploadPart) (first_of (refuse_if (nat_lt most_upload_bytes n) refusal.UploadTooLarge) (put_refusal (rows_with f rows) u.path)))
+      ap (λ t. first_refusal (refuse_if (not (list_all t (enumerate_from 0 numbers))) refusal.UploadPart) (first_refusal (refuse_if (nat_lt LARGEST_BODY (sum_by (λ p. size p.body) (listed (map (part_with f) u.parts) numbers))) refusal.UploadTooLarge) (put_refusal (rows_with f rows) u.path))) (same_function (is_listed (map (part_with f) u.parts)) (is_listed u.parts) (is_listed-with u.parts))
+      ∙ ap (λ n. first_refusal (refuse_if (not (list_all (is_listed u.parts) (enumerate_from 0 numbers))) refusal.UploadPart) (first_refusal (refuse_if (nat_lt LARGEST_BODY n) refusal.UploadTooLarge) (put_refusal (rows_with f rows) u.path)))
       (ap (sum_by (λ p. size p.body)) (listed-with u.parts numbers) ∙ sum_by-map (part_with f) (λ p. size p.body) (listed u.parts numbers))
-      ∙ ap (λ r. first_of (refuse_if (not (list_all (is_listed u.parts) (enumerate_from 0 numbers))) refusal.UploadPart) (first_of (refuse_if (nat_lt most_upload_bytes (sum_by (λ p. size (f p.body)) (listed u.parts numbers))) refusal.UploadTooLarge) r)) (put_refusal-with f rows u.path)
+      ∙ ap (λ r. first_refusal (refuse_if (not (list_all (is_listed u.parts) (enumerate_from 0 numbers))) refusal.UploadPart) (first_refusal (refuse_if (nat_lt LARGEST_BODY (sum_by (λ p. size (f p.body)) (listed u.parts numbers))) refusal.UploadTooLarge) r)) (put_refusal-with f rows u.path)
 
   add_upload-with : (s : State A) (p : AccountPath) (t : List ℕ) (moment : ℕ) → add_upload (state_with f s) p t moment ≡ state_with f (add_upload s p t moment)
   add_upload-with s p t moment = ap (λ us. record (state_with f s) { uploads = us }) (sym (map-append (upload_with f) s.uploads _))

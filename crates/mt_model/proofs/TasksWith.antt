@@ -16,7 +16,7 @@ use Rattle.mt_types.specs.declared.task.Asset.{Asset}
 use Rattle.mt_types.specs.declared.task.Run.{Run}
 use Rattle.mt_model.specs.Feed.{entries_of, feed, items_in, items_of}
 use Rattle.mt_model.specs.Names.{job_stor, output_prefix}
-use Rattle.mt_model.specs.Tasks.{all_complete, assets_of, input_of, is_committed, is_complete, is_ready, is_running, is_task, is_task_of, items_read, may_begin, may_run, object_read, phases_of, places, ready, reducer_at, reducer_of, root_at, run_in, run_of, share, task_of, waits_finish}
+use Rattle.mt_model.specs.Tasks.{all_complete, assets_of, input_of, is_committed, is_complete, is_ready, is_running, is_task, is_task_of, items_read, may_begin, may_run, object_read, phases_of, task_count, ready, reducer_at, reducer_of, root_at, run_in, run_of, share, task_of, waits_finish}
 use Rattle.mt_model.proofs.Maps.{drop-map, enumerate-map, filter-map, flat_map-map, length-map, list_any-map, map-flat_map, map-map, same_function, slice_get-map, take-map, zip-map}
 
 module _ {A B : Type 0} (f : A → B) where
@@ -48,20 +48,20 @@ module _ {A B : Type 0} (f : A → B) where
       ∙ map-map (λ p. p.1) numbered mine
       ∙ sym (map-map (item_with f) (λ p. p.1) mine)
 
-  pub places_cases : (kind : PhaseKind) (items : List (Item A)) → places kind (map (item_with f) items) ≡ places kind items
-  places_cases Map items = length-map (item_with f) items
-  places_cases (Reduce count) items = refl
+  pub task_count_cases : (kind : PhaseKind) (items : List (Item A)) → task_count kind (map (item_with f) items) ≡ task_count kind items
+  task_count_cases Map items = length-map (item_with f) items
+  task_count_cases (Reduce count) items = refl
 
-  pub places-with : (kind : PhaseKind) (j : Job A) (phase : ℕ) → places kind (feed (job_with f j) phase) ≡ places kind (feed j phase)
-  places-with kind j phase = ap (places kind) (feed-with j phase) ∙ places_cases kind (feed j phase)
+  pub task_count-with : (kind : PhaseKind) (j : Job A) (phase : ℕ) → task_count kind (feed (job_with f j) phase) ≡ task_count kind (feed j phase)
+  task_count-with kind j phase = ap (task_count kind) (feed-with j phase) ∙ task_count_cases kind (feed j phase)
 
   pub is_committed-with : (es : List (TraceEntry A)) (phase place : ℕ) → is_committed (map (trace_entry_with f) es) phase place ≡ is_committed es phase place
   is_committed-with es phase place = list_any-map (trace_entry_with f) (λ e. (e.phase == phase) && (e.place == place)) es
 
   is_complete-with : (j : Job A) (p : ℕ × Phase) → is_complete (job_with f j) p ≡ is_complete j p
   is_complete-with j p =
-      ap (λ t. list_all t (range_with_len 0 (places p.1.kind (feed (job_with f j) p.0)))) (same_function (is_committed (map (trace_entry_with f) j.trace) p.0) (is_committed j.trace p.0) (is_committed-with j.trace p.0))
-      ∙ ap (λ n. list_all (is_committed j.trace p.0) (range_with_len 0 n)) (places-with p.1.kind j p.0)
+      ap (λ t. list_all t (range_with_len 0 (task_count p.1.kind (feed (job_with f j) p.0)))) (same_function (is_committed (map (trace_entry_with f) j.trace) p.0) (is_committed j.trace p.0) (is_committed-with j.trace p.0))
+      ∙ ap (λ n. list_all (is_committed j.trace p.0) (range_with_len 0 n)) (task_count-with p.1.kind j p.0)
 
   complete_one : (j : Job A) → is_complete (job_with f j) ≡ is_complete j
   complete_one j = same_function (is_complete (job_with f j)) (is_complete j) (is_complete-with j)
@@ -76,8 +76,8 @@ module _ {A B : Type 0} (f : A → B) where
   task_cases : (j : Job A) (phase place : ℕ) (o : Option Phase) → is_task_of (job_with f j) phase place o ≡ is_task_of j phase place o
   task_cases j phase place None = refl
   task_cases j phase place (Some p) =
-      ap (λ b. b && nat_lt place (places p.kind (feed (job_with f j) phase))) (may_begin-with j phase p.kind)
-      ∙ ap (λ n. may_begin j phase p.kind && nat_lt place n) (places-with p.kind j phase)
+      ap (λ b. b && nat_lt place (task_count p.kind (feed (job_with f j) phase))) (may_begin-with j phase p.kind)
+      ∙ ap (λ n. may_begin j phase p.kind && nat_lt place n) (task_count-with p.kind j phase)
 
   pub is_task-with : (j : Job A) (phase place : ℕ) → is_task (job_with f j) phase place ≡ is_task j phase place
   is_task-with j phase place = task_cases j phase place (slice_get j.document.phases phase)
@@ -90,10 +90,10 @@ module _ {A B : Type 0} (f : A → B) where
       ap (λ b. b && not (is_committed (map (trace_entry_with f) j.trace) phase place)) (may_run-with j phase place)
       ∙ ap (λ b. may_run j phase place && not b) (is_committed-with j.trace phase place)
 
-  ready_in : (j : Job A) (p : ℕ × Phase) → map (task_of (job_with f j) p.0) (filter (is_ready (job_with f j) p.0) (range_with_len 0 (places p.1.kind (feed (job_with f j) p.0)))) ≡ map (task_of j p.0) (filter (is_ready j p.0) (range_with_len 0 (places p.1.kind (feed j p.0))))
+  ready_in : (j : Job A) (p : ℕ × Phase) → map (task_of (job_with f j) p.0) (filter (is_ready (job_with f j) p.0) (range_with_len 0 (task_count p.1.kind (feed (job_with f j) p.0)))) ≡ map (task_of j p.0) (filter (is_ready j p.0) (range_with_len 0 (task_count p.1.kind (feed j p.0))))
   ready_in j p =
-      ap (λ t. map (task_of j p.0) (filter t (range_with_len 0 (places p.1.kind (feed (job_with f j) p.0))))) (same_function (is_ready (job_with f j) p.0) (is_ready j p.0) (is_ready-with j p.0))
-      ∙ ap (λ n. map (task_of j p.0) (filter (is_ready j p.0) (range_with_len 0 n))) (places-with p.1.kind j p.0)
+      ap (λ t. map (task_of j p.0) (filter t (range_with_len 0 (task_count p.1.kind (feed (job_with f j) p.0))))) (same_function (is_ready (job_with f j) p.0) (is_ready j p.0) (is_ready-with j p.0))
+      ∙ ap (λ n. map (task_of j p.0) (filter (is_ready j p.0) (range_with_len 0 n))) (task_count-with p.1.kind j p.0)
 
   -- the same tasks are ready, in the same order
   pub ready-with : (j : Job A) → ready (job_with f j) ≡ ready j

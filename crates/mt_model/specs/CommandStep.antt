@@ -11,13 +11,13 @@ use Rattle.mt_types.specs.declared.refusal.Refusal.TheVariants.{RootDirectory}
 use Rattle.mt_types.specs.declared.upload.Stage.TheVariants.{Aborted}
 use Rattle.mt_model.specs.JobSteps.{job_refusal, new_job_refusal, add_job, add_inputs_refusal, with_lines, input_refusal, with_end, commit_refusal, commit, finish_refusal, running_refusal, close_refusal, done_at, close}
 use Rattle.mt_model.specs.Names.{number_at}
-use Rattle.mt_model.specs.Rows.{Rows, first_of, link_refusal, make_directory_refusal, object_at, put_refusal, refuse_if, remove_refusal, with_row, without_row}
+use Rattle.mt_model.specs.Rows.{Rows, first_refusal, link_refusal, make_directory_refusal, object_at, put_refusal, refuse_if, remove_refusal, with_row, without_row}
 use Rattle.mt_model.specs.State.{State, job_at, upload_at, with_job, with_upload}
 use Rattle.mt_model.specs.UploadSteps.{is_jobs, new_upload_refusal, upload_refusal, commit_upload_refusal, add_upload, put_part, commit_upload, ended_as}
 
 -- a request changes nothing in the area of jobs
 abbrev pub outside_jobs : AccountPath → Option Refusal → Option Refusal
-outside_jobs p refusal = first_of (refuse_if (is_jobs p.area) RootDirectory) refusal
+outside_jobs p refusal = first_refusal (refuse_if (is_jobs p.area) RootDirectory) refusal
 
 module _ {B : Type 0} where
   -- what a put leaves at its path

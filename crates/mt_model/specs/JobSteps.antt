@@ -19,7 +19,7 @@ use Rattle.mt_model.specs.Feed.{feed}
 use Rattle.mt_model.specs.Limits.{most_asset_bytes, most_inputs}
 use Rattle.mt_model.specs.Names.{in_job_folder, job_folder, job_stor, number_at, root_of_input}
 use Rattle.mt_model.specs.Resolve.{Resolved, is_object_at, resolve}
-use Rattle.mt_model.specs.Rows.{Rows, first_of, object_at, refuse_if, with_row}
+use Rattle.mt_model.specs.Rows.{Rows, first_refusal, object_at, refuse_if, with_row}
 use Rattle.mt_model.specs.State.{State, with_job}
 use Rattle.mt_model.specs.Tasks.{is_committed, is_running, may_run, root_at, waits_finish}
 
@@ -58,7 +58,7 @@ module _ {B : Type 0} where
   -- each asset has to be an object, and no phase may have too many bytes of them
   abbrev pub new_job_refusal : (B → ℕ) → Rows B → JobDocument → Option Refusal
   new_job_refusal size rows document =
-      first_of (refuse_if (list_any (lacks_asset rows) document.phases) NotFound)
+      first_refusal (refuse_if (list_any (lacks_asset rows) document.phases) NotFound)
       (refuse_if (list_any (has_large_assets size rows) document.phases) AssetsTooLarge)
 
   -- a job that was just made
@@ -90,7 +90,7 @@ module _ {B : Type 0} where
   -- a job takes more lines while its input is open, up to a number in all
   abbrev pub add_inputs_refusal : List InputLine → Job B → Option Refusal
   add_inputs_refusal lines job =
-      first_of (input_refusal job)
+      first_refusal (input_refusal job)
       (refuse_if (nat_lt most_inputs (length job.inputs + length job.missing + length lines)) TooManyInputs)
 
   -- a line that names an object becomes an input with the body that it holds; any other is missing
@@ -115,8 +115,8 @@ module _ {B : Type 0} where
   -- only a task that may run is committed, and once
   abbrev pub commit_refusal : ℕ → ℕ → Job B → Option Refusal
   commit_refusal phase place job =
-      first_of (running_refusal job)
-      (first_of (refuse_if (not (may_run job phase place)) NotATask)
+      first_refusal (running_refusal job)
+      (first_refusal (refuse_if (not (may_run job phase place)) NotATask)
       (refuse_if (is_committed job.trace phase place) AlreadyCommitted))
 
   -- what the names of a task's outputs begin with
@@ -148,11 +148,11 @@ module _ {B : Type 0} where
 
   -- only a job that waits for it is finished
   abbrev pub finish_refusal : Job B → Option Refusal
-  finish_refusal job = first_of (running_refusal job) (refuse_if (not (waits_finish job)) NotComplete)
+  finish_refusal job = first_refusal (running_refusal job) (refuse_if (not (waits_finish job)) NotComplete)
 
   -- a job is closed where it waits to be finished, or is cancelled
   abbrev pub close_refusal : Bool → Job B → Option Refusal
-  close_refusal cancelled job = first_of (running_refusal job) (refuse_if (not cancelled && not (waits_finish job)) NotComplete)
+  close_refusal cancelled job = first_refusal (running_refusal job) (refuse_if (not cancelled && not (waits_finish job)) NotComplete)
 
   -- a job that is done
   abbrev pub done_at : ℕ → Bool → Job B → Job B

@@ -16,7 +16,8 @@ use Rattle.mt_types.specs.declared.upload.PartRow.{PartRow}
 use Rattle.mt_types.specs.declared.upload.Upload.{Upload}
 use Rattle.mt_model.specs.Feed.{items_of}
 use Rattle.mt_model.specs.JobSteps.{archive_names}
-use Rattle.mt_model.specs.Limits.{last_part, longest_root, numbers_of_a_position}
+use Rattle.mt_model.specs.Limits.{longest_root}
+use Rattle.mt_types.specs.declared.limits.TheConstants.{LAST_PART, NUMBERS_A_COMMAND}
 use Rattle.mt_model.specs.Names.{ends_in_output, in_job_folder, job_folder, job_name, job_stor}
 use Rattle.mt_model.specs.Resolve.{is_object_at}
 use Rattle.mt_model.specs.Rows.{Rows, IsTree, at, is_directory, is_root, object_at, object_in}
@@ -26,11 +27,11 @@ use Rattle.mt_model.specs.UploadSteps.{is_jobs}
 
 -- below the first number of a position
 abbrev pub IsBelow : ℕ → ℕ → Type 0
-IsBelow count number = number < count * numbers_of_a_position
+IsBelow count number = number < count * NUMBERS_A_COMMAND
 
 -- the number of a job or an upload: the first of its position
 pub record IsFirstNumber (count number : ℕ) : Type 0 where
-  pub first : number % numbers_of_a_position ≡ 0
+  pub first : number % NUMBERS_A_COMMAND ≡ 0
   pub below : IsBelow count number
 
 -- one of the five names of an archive
@@ -95,7 +96,7 @@ module _ {B : Type 0} where
 
   -- its index and its number are within their bounds
   pub record LawfulPart (count : ℕ) (part : PartRow B) : Type 0 where
-    pub index : part.index ≤ last_part
+    pub index : part.index ≤ LAST_PART
     pub number : IsBelow count part.number
 
   -- its number is of a command so far, an object can be asked for at its path, and its parts rise

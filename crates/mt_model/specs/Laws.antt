@@ -1,6 +1,6 @@
 -- The laws of the definitions, as they are told to the layers above: of bodies that are references into a log, and
 -- of the bytes that a function reads for each.
-use Rattle.std.specs.Prelude.{◌≡◌, ℕ, ◌<◌, List, map, length, None}
+use Rattle.std.specs.Prelude.{◌≡◌, ℕ, ◌<◌, List, map, length, None, ◌++◌}
 use Rattle.mt_path.specs.AccountPath.{AccountPath}
 use Rattle.mt_types.specs.Values.{command_with, fate_with, item_with, job_with, trace_entry_with}
 use Rattle.mt_types.specs.declared.body.Body.{Body}
@@ -11,11 +11,13 @@ use Rattle.mt_types.specs.declared.job.Item.{Item}
 use Rattle.mt_types.specs.declared.job.Job.{Job}
 use Rattle.mt_types.specs.declared.job.TraceEntry.{TraceEntry}
 use Rattle.mt_types.specs.declared.task.Fate.{Fate}
+use Rattle.mt_types.specs.Kinds.{OnRows, kind_of}
 use Rattle.mt_model.specs.Bodies.{OfState, resolved_with, rows_with, state_with}
 use Rattle.mt_model.specs.CommandStep.{allowed, replay, step}
 use Rattle.mt_model.specs.Feed.{feed}
+use Rattle.mt_model.specs.Keeping.{KeepsLimits, SaysWithin}
 use Rattle.mt_model.specs.Lawful.{Lawful}
-use Rattle.mt_model.specs.Limits.{most_commands}
+use Rattle.mt_types.specs.declared.limits.TheConstants.{MOST_COMMANDS}
 use Rattle.mt_model.specs.Listing.{listing, result_set_size}
 use Rattle.mt_model.specs.Meaning.{PhasesMean}
 use Rattle.mt_model.specs.Resolve.{Committing, resolve}
@@ -38,6 +40,18 @@ ReplayIsRead = (read : Reading) (s : State Body) (cs : List (Command Body)) → 
 -- a command is refused for the same cause over both, where sizes are kept
 abbrev pub AllowedIsRead : Type 0
 AllowedIsRead = (read : Reading) → KeepsSize read → (s : State Body) (c : Command Body) → allowed length (state_with read s) (command_with read c) ≡ allowed (λ b. b.len) s c
+
+-- and where the sizes of the bodies that the state holds are kept, whatever is read for others
+abbrev pub AllowedOfHeld : Type 0
+AllowedOfHeld = (read : Reading) (s : State Body) (c : Command Body) → OfState (λ b. length (read b) ≡ b.len) s → allowed length (state_with read s) (command_with read c) ≡ allowed (λ b. b.len) s c
+
+-- a history goes on from where its front leads
+abbrev pub ReplayGoesOn : Type 0
+ReplayGoesOn = (s : State Body) (cs ds : List (Command Body)) → replay s (cs ++ ds) ≡ replay (replay s cs) ds
+
+-- the limits are kept by each command on rows that says what is within them
+abbrev pub RowsKeepLimits : Type 0
+RowsKeepLimits = (s : State Body) (c : Command Body) → kind_of c ≡ OnRows → KeepsLimits s → SaysWithin c → KeepsLimits (step s c)
 
 -- a page has the same rows
 abbrev pub ListingIsRead : Type 0
@@ -85,4 +99,4 @@ StatesAgree = (f g : Reading) (s : State Body) → OfState (λ b. f b ≡ g b) s
 
 -- where a command is allowed, it keeps a state lawful: as long as there is room for one more
 abbrev pub KeepsLawful : Command Body → Type 0
-KeepsLawful c = (s : State Body) → Lawful s → s.count < most_commands → allowed (λ b. b.len) s c ≡ None → Lawful (step s c)
+KeepsLawful c = (s : State Body) → Lawful s → s.count < MOST_COMMANDS → allowed (λ b. b.len) s c ≡ None → Lawful (step s c)

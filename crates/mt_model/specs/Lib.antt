@@ -13,5 +13,6 @@ pub mod CommandStep
 pub mod Lawful
 pub mod Meaning
 pub mod Bodies
+pub mod Keeping
 pub mod Laws
 pub mod Worked

@@ -6,12 +6,12 @@ use Rattle.mt_types.specs.declared.document.PhaseKind.{PhaseKind}
 use Rattle.mt_types.specs.declared.job.Item.{Item}
 use Rattle.mt_types.specs.declared.job.TraceEntry.{TraceEntry}
 use Rattle.mt_model.specs.Feed.{items_in}
-use Rattle.mt_model.specs.Tasks.{places}
+use Rattle.mt_model.specs.Tasks.{task_count}
 
 module _ {B : Type 0} where
   -- each task of a phase over a feed stands once among these, and no other does
   abbrev pub IsEachTaskOnce : PhaseKind → List (Item B) → List (TraceEntry B) → Type 0
-  IsEachTaskOnce kind items entries = (k : ℕ) → count_by (λ e. e.place == k) entries ≡ cond (nat_lt k (places kind items)) 1 0
+  IsEachTaskOnce kind items entries = (k : ℕ) → count_by (λ e. e.place == k) entries ≡ cond (nat_lt k (task_count kind items)) 1 0
 
   -- the phases from this number on, over these items, with these entries of each, mean these outputs: each phase's
   -- outputs are the next one's feed, and each task counts once

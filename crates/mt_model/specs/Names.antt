@@ -6,16 +6,21 @@ use Rattle.mt_ident.specs.Identifiers.{identifier_text, identifier_number}
 use Rattle.mt_path.specs.AccountPath.{AccountPath}
 use Rattle.mt_path.specs.declared.area.Area.{Area}
 use Rattle.mt_path.specs.declared.area.Area.TheVariants.{Stor, Public, Jobs}
-use Rattle.mt_model.specs.Limits.{numbers_of_a_position, longest_root}
+use Rattle.mt_model.specs.Limits.{longest_root}
+use Rattle.mt_types.specs.declared.limits.TheConstants.{NUMBERS_A_COMMAND}
 use Rattle.mt_model.specs.Listing.{name_of}
 
 -- the number of what a command makes: its position, and an index within the command
 abbrev pub number_at : ℕ → ℕ → ℕ
-number_at position index = position * numbers_of_a_position + index
+number_at position index = position * NUMBERS_A_COMMAND + index
 
 -- a job's name, the text of its identifier
 abbrev pub job_name : ℕ → List ℕ
 job_name job = identifier_text 2 job
+
+-- an object's etag, the text of its identifier
+abbrev pub etag_of : ℕ → List ℕ
+etag_of number = identifier_text 1 number
 
 -- the folder of a job
 abbrev pub job_folder : ℕ → AccountPath
@@ -50,14 +55,14 @@ is_below_stor job (id ∷ folder ∷ []) = false
 is_below_stor job (id ∷ folder ∷ first ∷ rest) = bytes_eq id (job_name job) && bytes_eq folder (codes "stor") && not (ends_in_output first)
 
 -- a list is not empty
-abbrev pub is_some_list : List (List ℕ) → Bool
-is_some_list [] = false
-is_some_list (name ∷ names) = true
+abbrev pub is_nonempty : List (List ℕ) → Bool
+is_nonempty [] = false
+is_nonempty (name ∷ names) = true
 
 -- where the tasks of a job may make objects
 abbrev pub is_task_place : ℕ → Area → List (List ℕ) → Bool
-is_task_place job Stor parts = is_some_list parts
-is_task_place job Public parts = is_some_list parts
+is_task_place job Stor parts = is_nonempty parts
+is_task_place job Public parts = is_nonempty parts
 is_task_place job Jobs parts = is_below_stor job parts
 
 -- the paths above a path, from the root on

@@ -81,8 +81,8 @@ module _ {B : Type 0} where
   }
 
   -- with one more output
-  abbrev pub given_on : Committing → AccountPath → B → Option ℕ → Taken B → Taken B
-  given_on c name body reducer t =
+  abbrev pub with_output : Committing → AccountPath → B → Option ℕ → Taken B → Taken B
+  with_output c name body reducer t =
       record t { items = t.items ++ record { name = name; root = c.root; body = body; reducer = reducer } ∷ [] }
 
   -- an object at a place that can hold it
@@ -96,13 +96,13 @@ module _ {B : Type 0} where
   -- an output that is an object that stands there
   abbrev pub take_reference : Committing → AccountPath → Taken B → Option (Object B) → Result (Taken B) TaskFailure
   take_reference c name t None = Err TaskObjectMissing
-  take_reference c name t (Some object) = Ok (given_on c name object.body None t)
+  take_reference c name t (Some object) = Ok (with_output c name object.body None t)
 
   -- one record
   abbrev pub take_record : Committing → Taken B → TaskRecord B → Result (Taken B) TaskFailure
-  take_record c t (Emit None reducer body) = Ok (given_on c (fresh_place c t) body reducer (kept c (fresh_place c t) body t))
+  take_record c t (Emit None reducer body) = Ok (with_output c (fresh_place c t) body reducer (kept c (fresh_place c t) body t))
   take_record c t (Emit (Some place) reducer body) =
-      and_then (λ new. Ok (given_on c place body reducer new)) (take_placed c place body t)
+      and_then (λ new. Ok (with_output c place body reducer new)) (take_placed c place body t)
   take_record c t (Keep place body) = take_placed c place body t
   take_record c t (Ref name) = take_reference c name t (object_at t.rows name)
 

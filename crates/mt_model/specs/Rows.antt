@@ -37,9 +37,9 @@ abbrev pub is_root : AccountPath → Bool
 is_root p = not (is_some (parent_of p))
 
 -- the first refusal of two
-abbrev pub first_of : Option Refusal → Option Refusal → Option Refusal
-first_of None later = later
-first_of (Some refusal) later = Some refusal
+abbrev pub first_refusal : Option Refusal → Option Refusal → Option Refusal
+first_refusal None later = later
+first_refusal (Some refusal) later = Some refusal
 
 -- this refusal, where the test holds
 abbrev pub refuse_if : Bool → Refusal → Option Refusal
@@ -100,21 +100,21 @@ module _ {B : Type 0} where
   -- why no object can be put at a path
   abbrev pub put_refusal : Rows B → AccountPath → Option Refusal
   put_refusal rows p =
-      first_of (refuse_if (is_root p) RootDirectory)
-      (first_of (parent_refusal rows p)
+      first_refusal (refuse_if (is_root p) RootDirectory)
+      (first_refusal (parent_refusal rows p)
       (refuse_if (is_directory (at rows p)) DirectoryOperation))
 
   -- why no directory can be made at a path
   abbrev pub make_directory_refusal : Rows B → AccountPath → Option Refusal
   make_directory_refusal rows p =
-      first_of (refuse_if (is_some (at rows p)) EntityExists)
+      first_refusal (refuse_if (is_some (at rows p)) EntityExists)
       (parent_refusal rows p)
 
   -- why a row cannot be removed
   abbrev pub remove_refusal : Rows B → AccountPath → Option Refusal
   remove_refusal rows p =
-      first_of (refuse_if (is_root p) RootDirectory)
-      (first_of (refuse_if (not (is_some (at rows p))) NotFound)
+      first_refusal (refuse_if (is_root p) RootDirectory)
+      (first_refusal (refuse_if (not (is_some (at rows p))) NotFound)
       (refuse_if (not (length (children rows p) == 0)) DirectoryNotEmpty))
 
   -- why what stands there cannot be linked to
@@ -125,7 +125,7 @@ module _ {B : Type 0} where
 
   -- why no link to a source can be put at a path
   abbrev pub link_refusal : Rows B → AccountPath → AccountPath → Option Refusal
-  link_refusal rows p source = first_of (source_refusal (at rows source)) (put_refusal rows p)
+  link_refusal rows p source = first_refusal (source_refusal (at rows source)) (put_refusal rows p)
 
   -- each path stands once, the roots are directories, and so is the parent of each row
   pub record IsTree (rows : Rows B) : Type 0 where

@@ -35,9 +35,9 @@ module _ {B : Type 0} where
   share items count reducer = map (λ p. p.1) (filter (λ p. reducer_of p % count == reducer) (enumerate_from 0 items))
 
   -- the number of tasks of a phase over a feed: one an item, or one a reducer
-  abbrev pub places : PhaseKind → List (Item B) → ℕ
-  places Map items = length items
-  places (Reduce count) items = count
+  abbrev pub task_count : PhaseKind → List (Item B) → ℕ
+  task_count Map items = length items
+  task_count (Reduce count) items = count
 
   -- the items that the task at a place reads
   abbrev pub items_read : PhaseKind → List (Item B) → ℕ → List (Item B)
@@ -59,7 +59,7 @@ module _ {B : Type 0} where
 
   -- each task of a phase is committed
   abbrev pub is_complete : Job B → ℕ × Phase → Bool
-  is_complete job p = list_all (is_committed job.trace p.0) (range_with_len 0 (places p.1.kind (feed job p.0)))
+  is_complete job p = list_all (is_committed job.trace p.0) (range_with_len 0 (task_count p.1.kind (feed job p.0)))
 
   -- each task of each phase is
   abbrev pub all_complete : Job B → Bool
@@ -77,7 +77,7 @@ module _ {B : Type 0} where
   -- a task of this phase, if the job has it
   abbrev pub is_task_of : Job B → ℕ → ℕ → Option Phase → Bool
   is_task_of job phase place None = false
-  is_task_of job phase place (Some p) = may_begin job phase p.kind && nat_lt place (places p.kind (feed job phase))
+  is_task_of job phase place (Some p) = may_begin job phase p.kind && nat_lt place (task_count p.kind (feed job phase))
 
   -- the job has this task, and nothing holds it up
   abbrev pub is_task : Job B → ℕ → ℕ → Bool
@@ -102,7 +102,7 @@ module _ {B : Type 0} where
   -- the ready tasks of a job, by phase and then by place
   abbrev pub ready : Job B → List Task
   ready job = flat_map
-      (λ p. map (task_of job p.0) (filter (is_ready job p.0) (range_with_len 0 (places p.1.kind (feed job p.0)))))
+      (λ p. map (task_of job p.0) (filter (is_ready job p.0) (range_with_len 0 (task_count p.1.kind (feed job p.0)))))
       (phases_of job)
 
   -- a job waits to be finished where its input has ended and each task is committed

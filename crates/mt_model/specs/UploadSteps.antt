@@ -14,9 +14,9 @@ use Rattle.mt_types.specs.declared.upload.PartRow.{PartRow}
 use Rattle.mt_types.specs.declared.upload.Stage.{Stage}
 use Rattle.mt_types.specs.declared.upload.Stage.TheVariants.{Open, Committed, Aborted}
 use Rattle.mt_types.specs.declared.upload.Upload.{Upload}
-use Rattle.mt_model.specs.Limits.{most_upload_bytes}
+use Rattle.mt_types.specs.declared.limits.TheConstants.{LARGEST_BODY}
 use Rattle.mt_model.specs.Names.{number_at}
-use Rattle.mt_model.specs.Rows.{Rows, first_of, is_root, put_refusal, refuse_if, with_row}
+use Rattle.mt_model.specs.Rows.{Rows, first_refusal, is_root, put_refusal, refuse_if, with_row}
 use Rattle.mt_model.specs.State.{State, with_upload}
 
 -- the area of jobs, which requests do not change
@@ -39,7 +39,7 @@ module _ {B : Type 0} where
   -- refused where the upload is not there or not open, and then as an upload is
   abbrev pub upload_refusal : Option (Upload B) → (Upload B → Option Refusal) → Option Refusal
   upload_refusal None refusal = Some UploadNotFound
-  upload_refusal (Some u) refusal = first_of (refuse_if (not (is_open u.stage)) UploadState) (refusal u)
+  upload_refusal (Some u) refusal = first_refusal (refuse_if (not (is_open u.stage)) UploadState) (refusal u)
 
   -- an upload that was just begun
   abbrev pub new_upload : ℕ → AccountPath → List ℕ → ℕ → Upload B
@@ -66,8 +66,8 @@ module _ {B : Type 0} where
   -- each listed part has to be there, not too many bytes in all, and the path free for an object
   abbrev pub commit_upload_refusal : (B → ℕ) → Rows B → List ℕ → Upload B → Option Refusal
   commit_upload_refusal size rows numbers u =
-      first_of (refuse_if (not (list_all (is_listed u.parts) (enumerate_from 0 numbers))) UploadPart)
-      (first_of (refuse_if (nat_lt most_upload_bytes (sum_by (λ p. size p.body) (listed u.parts numbers))) UploadTooLarge)
+      first_refusal (refuse_if (not (list_all (is_listed u.parts) (enumerate_from 0 numbers))) UploadPart)
+      (first_refusal (refuse_if (nat_lt LARGEST_BODY (sum_by (λ p. size p.body) (listed u.parts numbers))) UploadTooLarge)
       (put_refusal rows u.path))
 
   -- an upload that takes no more parts

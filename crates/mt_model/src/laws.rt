@@ -9,12 +9,18 @@ ghost use Rattle.mt_types.specs.declared.document.JobDocument.{JobDocument};
 ghost use Rattle.mt_types.specs.declared.object.Field.{Field};
 ghost use Rattle.mt_model.specs.Lawful.{Lawful};
 ghost use Rattle.mt_model.specs.State.{State, first_state};
-ghost use Rattle.mt_model.specs.Laws.{ReplayIsRead, AllowedIsRead, ListingIsRead, SizeIsRead, FeedIsRead, ShareIsRead, ReadyIsRead, FinishIsRead, RunIsRead, InputIsRead, ResolveIsRead, MeaningIsRead, StatesAgree, KeepsLawful};
+ghost use Rattle.mt_model.specs.Laws.{ReplayIsRead, AllowedIsRead, ListingIsRead, SizeIsRead, FeedIsRead, ShareIsRead, ReadyIsRead, FinishIsRead, RunIsRead, InputIsRead, ResolveIsRead, MeaningIsRead, StatesAgree, KeepsLawful, AllowedOfHeld, ReplayGoesOn, RowsKeepLimits};
 
 /// A history over references does what the same history over bytes does, and is refused for the same causes.
 pub fn history_is_read()
     ensures replay { ReplayIsRead }
     ensures allowed { AllowedIsRead }
+    ensures held { AllowedOfHeld }
+{}
+
+/// A history goes on from where its front leads.
+pub fn replay_goes_on()
+    ensures { ReplayGoesOn }
 {}
 
 /// So do listings.
@@ -38,6 +44,11 @@ pub fn job_is_read()
 /// States whose bodies read the same are the same.
 pub fn states_agree()
     ensures { StatesAgree }
+{}
+
+/// A command on rows that says what is within the limits keeps a state within them.
+pub fn rows_keep_limits()
+    ensures { RowsKeepLimits }
 {}
 
 /// The first state is lawful.

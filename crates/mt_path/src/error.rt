@@ -15,7 +15,7 @@ pub enum PathError {
     OtherLogin,
     /// The second piece is missing, or no area.
     NoArea,
-    /// Memory was wanting.
+    /// Out of memory.
     Memory,
 }
 

@@ -41,7 +41,7 @@ pub fn target_names(alloc: Global, login: &str, raw: &[u8]) -> Result<Sequence<B
     judged(login.as_bytes(), pieces)
 }
 
-/// The pieces behind the login, or the first refusal.
+// The pieces behind the login, or the first refusal.
 #[tactic(auto, unfolding(crate::specs::Names::names_of))]
 fn judged(login: &[u8], mut pieces: Vec<Bytes>) -> Result<Sequence<Bytes>, PathError>
     ensures { result ≡ names_of login.now pieces.items }
@@ -62,7 +62,7 @@ fn judged(login: &[u8], mut pieces: Vec<Bytes>) -> Result<Sequence<Bytes>, PathE
     Ok(Sequence::from_vec(pieces))
 }
 
-/// The path of the names behind a login.
+// The path of the names behind a login.
 #[tactic(auto, unfolding(crate::specs::Names::path_of))]
 fn path_of(names: Sequence<Bytes>) -> Result<Path, PathError>
     requires { AreNames names }
@@ -79,7 +79,7 @@ fn path_of(names: Sequence<Bytes>) -> Result<Path, PathError>
     }
 }
 
-/// Whether names, each with its slash, are longer than a path.
+// Whether names, each with its slash, are longer than a path.
 fn is_too_long(names: &[Bytes]) -> bool
     ensures { result ≡ nat_lt LONGEST_PATH (length (slashed names.now)) }
 {

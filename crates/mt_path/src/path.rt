@@ -7,7 +7,7 @@ use crate::area::Area;
 use crate::component::is_component;
 use crate::error::PathError;
 use crate::limits::LONGEST_PATH;
-use mt_base::{Bytes, Duplicate, Text};
+use mt_base::{Bytes, Duplicate, Text, copy_all};
 use std::alloc::{AllocError, Global};
 use std::marker::Model;
 
@@ -102,7 +102,7 @@ impl Path {
         if self.parts.is_empty() {
             return Ok(None);
         }
-        let parts = copy_parts(alloc, &self.parts[..self.parts.len() - 1])?;
+        let parts = copy_all(alloc, &self.parts[..self.parts.len() - 1])?;
         Ok(Some(Path {
             area: self.area,
             parts,
@@ -119,7 +119,7 @@ impl Path {
         if !is_component(name) {
             return Err(PathError::BadComponent);
         }
-        let mut parts = copy_parts(alloc, &self.parts)?;
+        let mut parts = copy_all(alloc, &self.parts)?;
         parts.push(Bytes::from_slice(alloc, name)?)?;
         Ok(Path {
             area: self.area,
@@ -163,7 +163,7 @@ impl Path {
         }
     }
 
-    /// The number of bytes of the text without the login.
+    // The number of bytes of the text without the login.
     fn text_len(&self) -> usize
         ensures value { result ≡ length (local_text self.now) }
         ensures short { result ≤ LONGEST_PATH }
@@ -178,22 +178,12 @@ impl Path {
 
 impl Duplicate for Path {
     fn copy(&self, alloc: Global) -> Result<Path, AllocError> {
-        let parts = copy_parts(alloc, &self.parts)?;
+        let parts = copy_all(alloc, &self.parts)?;
         Ok(Path {
             area: self.area,
             parts,
         })
     }
-}
-
-fn copy_parts(alloc: Global, parts: &[Bytes]) -> Result<Vec<Bytes>, AllocError>
-    ensures { IfOk result (λ v. v.items ≡ parts.now) }
-{
-    let mut copies = Vec::with_capacity(alloc, parts.len())?;
-    for part in parts {
-        copies.push(part.copy(alloc)?)?;
-    }
-    Ok(copies)
 }
 
 fn same_area(a: Area, b: Area) -> bool
@@ -208,7 +198,7 @@ fn same_parts(a: &[Bytes], b: &[Bytes]) -> bool
     a == b
 }
 
-/// The text of a path.
+// The text of a path.
 fn path_bytes(
     alloc: Global,
     login: &[u8],
@@ -226,7 +216,7 @@ fn path_bytes(
     Ok(text)
 }
 
-/// A slash and a name, at the end of a text.
+// A slash and a name, at the end of a text.
 fn put_name(text: &mut Vec<u8>, name: &[u8]) -> Result<(), AllocError>
     ensures { OnOk result (text.new.items ≡ text.old.items ++ slash ∷ name.now) }
 {

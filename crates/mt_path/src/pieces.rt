@@ -34,14 +34,14 @@ pub fn text_pieces(alloc: Global, login: &[u8], text: &[u8]) -> Result<Vec<Bytes
     }
 }
 
-/// Whether a text begins as a name does.
+// Whether a text begins as a name does.
 fn begins_as_text(text: &[u8]) -> bool
     ensures { result ≡ begins_as_text text.now }
 {
     text.starts_with(b"/") || text.starts_with(b"~~/")
 }
 
-/// The pieces of a text, decoded.
+// The pieces of a text, decoded.
 fn decoded_pieces(alloc: Global, text: &[u8]) -> Result<Vec<Bytes>, AllocError>
     ensures { IfOk result (λ v. v.items ≡ map decoded_bytes_of (pieces text.now)) }
 {
@@ -53,7 +53,7 @@ fn decoded_pieces(alloc: Global, text: &[u8]) -> Result<Vec<Bytes>, AllocError>
     Ok(out)
 }
 
-/// Copies of pieces, with the login where the first is `~~`.
+// Copies of pieces, with the login where the first is `~~`.
 fn copied(alloc: Global, login: &[u8], pieces: &[&[u8]]) -> Result<Vec<Bytes>, AllocError>
     ensures { IfOk result (λ v. v.items ≡ with_login login.now (map (λ x. x.now) pieces.now)) }
 {
@@ -67,7 +67,7 @@ fn copied(alloc: Global, login: &[u8], pieces: &[&[u8]]) -> Result<Vec<Bytes>, A
     Ok(out)
 }
 
-/// The login for `~~`, and else the piece.
+// The login for `~~`, and else the piece.
 fn login_or<'a>(login: &'a [u8], piece: &'a [u8]) -> &'a [u8]
     ensures { result.now ≡ (if bytes_eq piece.now (codes "~~") then login.now else piece.now) }
 {
@@ -78,7 +78,7 @@ fn login_or<'a>(login: &'a [u8], piece: &'a [u8]) -> &'a [u8]
     }
 }
 
-/// The pieces between slashes, without the empty ones.
+// The pieces between slashes, without the empty ones.
 fn pieces<'a>(alloc: Global, text: &'a [u8]) -> Result<Vec<&'a [u8]>, AllocError>
     ensures { IfOk result (λ v. map (λ x. x.now) v.items ≡ pieces text.now) }
 {
@@ -87,7 +87,7 @@ fn pieces<'a>(alloc: Global, text: &'a [u8]) -> Result<Vec<&'a [u8]>, AllocError
         .collect(alloc)
 }
 
-/// What stands before the first question mark.
+// What stands before the first question mark.
 fn before_query(raw: &[u8]) -> &[u8]
     ensures { result.now ≡ before_first (λ b. b == question_mark) raw.now }
 {
@@ -97,14 +97,14 @@ fn before_query(raw: &[u8]) -> &[u8]
     }
 }
 
-/// The place of the first question mark.
+// The place of the first question mark.
 fn query_at(raw: &[u8]) -> Option<usize>
     ensures { result ≡ position (λ b. b == question_mark) raw.now }
 {
     raw.iter().position(|b| *b == b'?')
 }
 
-/// A piece without its escapes.
+// A piece without its escapes.
 fn decoded(alloc: Global, piece: &[u8]) -> Result<Bytes, AllocError>
     ensures { IfOk result (λ v. v ≡ decoded_bytes_of piece.now) }
 {

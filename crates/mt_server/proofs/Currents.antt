@@ -6,8 +6,9 @@ use Rattle.mt_disk.specs.CrashModel.{Only}
 use Rattle.mt_log.specs.LogImage.{IsBeforeOrAfter, SameLog, log_size, payloads, payloads_of}
 use Rattle.mt_log.specs.LogState.{size_with, told, with_payload, with_record}
 use Rattle.mt_server.specs.Answer.{fits}
-use Rattle.mt_server.specs.EngineState.{Accepts, AllHave, AllHaveEither, EngineState, HasHistory, IsCurrent, Writes, has_room, told_images}
-use Rattle.mt_server.specs.Store.{History, IsPut, State, first_state, most_commands, payload_of, payloads_of_history, step}
+use Rattle.mt_server.specs.EngineState.{Accepts, AllHave, AllHaveEither, EngineState, HasHistory, IsCurrent, WritesPayload, has_room, told_images}
+use Rattle.mt_server.specs.Store.{History, IsPut, State, first_state, payload_of, payloads_of_history, step}
+use Rattle.mt_types.specs.declared.limits.TheConstants.{MOST_COMMANDS}
 use Rattle.mt_server.specs.declared.accepted.Accepted.{Accepted}
 use Rattle.mt_server.specs.declared.accepted.Accepted.TheVariants as accepted
 use Rattle.mt_server.specs.declared.put.Put.{Put}
@@ -19,8 +20,8 @@ pub room_is : (tells : Bool) (seen : Option Files) (engine : EngineState) (h : H
 room_is tells seen engine h put current =
     let count : engine.state.count ≡ length h = ap (λ (s : State). s.count) current.state ∙ count_of_replay h in
     let size : size_with engine.log (length (payload_of put)) ≡ log_size (payloads_of_history h) + 21 + length (payload_of put) = omega (arith, current.size) in
-    ap (λ (n : ℕ). nat_lt n most_commands && nat_le (size_with engine.log (length (payload_of put))) engine.log.limit) count
-    ∙ ap (λ (n : ℕ). nat_lt (length h) most_commands && nat_le n engine.log.limit) size
+    ap (λ (n : ℕ). nat_lt n MOST_COMMANDS && nat_le (size_with engine.log (length (payload_of put))) engine.log.limit) count
+    ∙ ap (λ (n : ℕ). nat_lt (length h) MOST_COMMANDS && nat_le n engine.log.limit) size
 
 -- a log with one payload more
 grown : (old new : Option Files) (payload : List ℕ) (ps : List (List ℕ)) → told new ≡ with_payload payload (told old) → ((files : Files) → old ≡ Some files → payloads_of files ≡ ps) → (files : Files) → new ≡ Some files → payloads_of files ≡ ps ++ payload ∷ []
@@ -69,7 +70,7 @@ accepted_or_not tells (Some files) engine h put may current limits left read c i
 -- what became of a command, by what became of its payload
 pub accepted_by_write : (tells : Bool) (seen : Option Files) (old mid : EngineState) (payload : List ℕ) (h : History) (put : Put) (faults : ℕ) (r : Accepted) (seen' : Option Files) (new : EngineState) (faults' : ℕ) (may : Files → Type 0)
     → IsCurrent tells seen old h → IsPut put → fits old.log.limit h put ≡ true → mid ≡ record old { state = step old.state put } → payload ≡ payload_of put
-    → Writes payload seen mid faults r seen' new faults' (told_images tells may) → ((files : Files) → seen ≡ Some files → mid.log.is_old ≡ false → IsOk (payloads files)) → Accepts tells h put seen old faults r seen' new faults' (told_images tells may)
+    → WritesPayload payload seen mid faults r seen' new faults' (told_images tells may) → ((files : Files) → seen ≡ Some files → mid.log.is_old ≡ false → IsOk (payloads files)) → Accepts tells h put seen old faults r seen' new faults' (told_images tells may)
 accepted_by_write tells seen old mid payload h put faults accepted.Added seen' new faults' may current limits room changed is wrote read = (
   room,
   accepted_added tells seen old h put seen' new current limits (wrote.0 ∙ ap (λ (p : List ℕ). with_payload p (told seen)) is)

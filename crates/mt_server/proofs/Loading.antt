@@ -5,13 +5,14 @@ use Rattle.std.specs.Option.{ForSome}
 use Rattle.mt_disk.specs.Files.{Files}
 use Rattle.mt_log.specs.LogImage.{payloads, payloads_of}
 use Rattle.mt_log.specs.LogState.{Stands, next_place, told}
-use Rattle.mt_log.specs.Places.{IsPlace, end_from, end_of, first_of, from_place, payload_at}
+use Rattle.mt_log.specs.Places.{IsPlace, end_from, end_of, first_payload, from_place, payload_at}
 use Rattle.mt_log.proofs.Places.{end_from-append, end_from-rises, end_of-size, from_place-end, record_within}
 use Rattle.mt_log.proofs.Standing.{log_is, stands_size}
 use Rattle.mt_log.proofs.Walks.{read_by}
 use Rattle.mt_server.specs.EngineState.{EngineState, IsCurrent}
 use Rattle.mt_server.specs.Opening.{IsForeignAt, IsLoading}
-use Rattle.mt_server.specs.Store.{History, IsNoPut, IsPut, State, first_state, most_commands, payload_of, payloads_of_history, step}
+use Rattle.mt_server.specs.Store.{History, IsNoPut, IsPut, State, first_state, payload_of, payloads_of_history, step}
+use Rattle.mt_types.specs.declared.limits.TheConstants.{MOST_COMMANDS}
 use Rattle.mt_server.specs.declared.put.Put.{Put}
 use Rattle.mt_server.proofs.Histories.{payloads-push, replay-push}
 use Rattle.mt_server.proofs.Spelled.{puts-push}
@@ -22,7 +23,7 @@ rest_is ps h rest place at is = (λ i. from_place (at i) (is i)) ∙ from_place-
 
 -- its first payload is the one at the place
 first_is : (ps rest : List (List ℕ)) (place : ℕ) (payload : List ℕ) → from_place place ps ≡ rest → (at : IsPlace place ps) → payload_at place ps ≡ payload → rest ≡ payload ∷ at.more
-first_is ps rest place payload from at is = sym from ∙ (at.is ∙ ap (λ (p : List ℕ). p ∷ at.more) (sym (ap first_of at.is) ∙ is))
+first_is ps rest place payload from at is = sym from ∙ (at.is ∙ ap (λ (p : List ℕ). p ∷ at.more) (sym (ap first_payload at.is) ∙ is))
 
 end_of-push : (h : History) (put : Put) → end_of (payloads_of_history (h ++ put ∷ [])) ≡ next_place (end_of (payloads_of_history h)) (length (payload_of put))
 unfolding end_of
@@ -56,7 +57,7 @@ module _ {D : Type 0} (seen : D → Option Files) (may_leave : D → Files → T
 
   -- a record that is no command of the history
   pub foreign_here : (place : ℕ) (h : History) → IsLoading (seen disk) engine place h → engine.log.is_old ≡ false → (files : Files) → (is : seen disk ≡ Some files) → IsPlace place (payloads_of files)
-      → (length h ≡ most_commands) ⊎ IsNoPut (payload_at place (payloads_of files)) → IsForeignAt files place
+      → (length h ≡ MOST_COMMANDS) ⊎ IsNoPut (payload_at place (payloads_of files)) → IsForeignAt files place
   foreign_here place h so_far is_new files is here strange =
       let ps = payloads_of files in
       let behind = so_far.behind files is in
@@ -74,7 +75,7 @@ module _ {D : Type 0} (seen : D → Option Files) (may_leave : D → Files → T
   -- a record lies before the closed gate
   pub within_log : (place : ℕ) (files : Files) → seen disk ≡ Some files → (here : IsPlace place (payloads_of files)) → next_place place (length (payload_at place (payloads_of files))) ≤ engine.log.gate
   within_log place files is here =
-      let first : payload_at place (payloads_of files) ≡ here.payload = ap first_of here.is in
+      let first : payload_at place (payloads_of files) ≡ here.payload = ap first_payload here.is in
       omega (arith, record_within engine.log.is_old _ _ _ (stands is_open files is).1.holds place here, ap (λ (l : List ℕ). length l) first)
 
   pub log_end : (files : Files) → seen disk ≡ Some files → 8 ≤ engine.log.gate

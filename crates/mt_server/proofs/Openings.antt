@@ -5,8 +5,8 @@ use Rattle.std.specs.Option.{ForSome}
 use Rattle.mt_base.specs.Counts.{Rose}
 use Rattle.mt_disk.specs.Files.{Files}
 use Rattle.mt_disk.specs.CrashModel.{Only, OnlyRead}
-use Rattle.mt_log.specs.declared.refusal.OpenError.{OpenError}
-use Rattle.mt_log.specs.declared.refusal.OpenError.TheVariants as refusal
+use Rattle.mt_log.specs.declared.open_error.OpenError.{OpenError}
+use Rattle.mt_log.specs.declared.open_error.OpenError.TheVariants as refusal
 use Rattle.mt_log.specs.LogImage.{LogFault, NotALog, OldVersion, Damaged, Short, SameLog, chosen_by, payloads, payloads_in, payloads_of}
 use Rattle.mt_log.specs.LogState.{LogState, Settled, Stands, told}
 use Rattle.mt_log.specs.Scan.{fault_of}
@@ -16,7 +16,8 @@ use Rattle.mt_server.specs.EngineState.{AllHave, EngineState, IsCurrent, OverHis
 use Rattle.mt_server.specs.Opening.{IsReadable, IsRefused, KeepsLogs, end_by, line_of}
 use Rattle.mt_server.specs.Sides.{sides}
 use Rattle.mt_server.specs.Statuses.{IsBegun, NotOpened, SaysLine, Session}
-use Rattle.mt_server.specs.Store.{History, State, most_commands, payloads_of_history}
+use Rattle.mt_server.specs.Store.{History, State, payloads_of_history}
+use Rattle.mt_types.specs.declared.limits.TheConstants.{MOST_COMMANDS}
 use Rattle.mt_server.specs.declared.opening.OpenEnd.{OpenEnd}
 use Rattle.mt_server.specs.declared.opening.OpenEnd.TheVariants as opening
 use Rattle.mt_server.specs.declared.opening.Unreadable.{Unreadable}
@@ -115,7 +116,7 @@ opened_over (Some files) (Some now) new engine same read readable current = λ h
 
 -- and there is one
 pub opened_readable : (old mid new : Option Files) (engine : EngineState) → told mid ≡ told old → new ≡ mid → ((files : Files) → old ≡ Some files → (now : Files) → mid ≡ Some now → payloads files ≡ Ok (payloads_of now))
-    → engine.state.count ≤ most_commands → ((h : History) × IsCurrent (is_some mid) new engine h) → ForSome old IsReadable
+    → engine.state.count ≤ MOST_COMMANDS → ((h : History) × IsCurrent (is_some mid) new engine h) → ForSome old IsReadable
 opened_readable None mid new engine same read readable few current files is = absurd (cc)
 opened_readable (Some here) None new engine same read readable few current files is = let never : None ≡ Some (payloads_of here) = same in absurd (cc)
 opened_readable (Some here) (Some now) new engine same read readable few current files is = record {

@@ -3,10 +3,12 @@ use Rattle.std.specs.Prelude.{ℕ, ◌+◌, Bool, false, ◌&&◌, ◌||◌, not
 use Rattle.std.specs.List.{list_all, list_any}
 use Rattle.std.specs.Char.{is_ascii_alphanumeric, to_ascii_lowercase}
 use Rattle.mt_log.specs.LogImage.{log_size}
-use Rattle.mt_http.specs.Message.{is_named}
+use Rattle.mt_base.specs.Blanks.{is_blank}
+use Rattle.mt_types.specs.Fields.{first_value}
 use Rattle.mt_http.specs.Options as option
 use Rattle.mt_server.specs.ReplyText.{stored_reply, found_reply, refused_reply}
-use Rattle.mt_server.specs.Store.{History, replay, made_by, object_at, payload_of, payloads_of_history, most_commands}
+use Rattle.mt_server.specs.Store.{History, replay, made_by, object_at, payload_of, payloads_of_history}
+use Rattle.mt_types.specs.declared.limits.TheConstants.{MOST_COMMANDS}
 use Rattle.mt_server.specs.Stored.{Stored}
 use Rattle.mt_types.specs.declared.object.Field.{Field}
 use Rattle.mt_http.specs.declared.message.Message.{Message}
@@ -15,15 +17,6 @@ use Rattle.mt_server.specs.declared.reply.ErrorCode.TheVariants as error
 use Rattle.mt_server.specs.declared.reply.Reply.{Reply}
 use Rattle.mt_server.specs.declared.route.Route.{Route}
 use Rattle.mt_server.specs.declared.route.Route.TheVariants.{PutObject, GetObject, NotBuilt}
-
--- the value of the first field of a name
-abbrev pub first_value : List ℕ → List Field → Option (List ℕ)
-first_value name [] = None
-first_value name (f ∷ fields) = if is_named name f then Some f.value else first_value name fields
-
--- spaces and tabs
-abbrev pub is_blank : ℕ → Bool
-is_blank b = (b == 32) || (b == 9)
 
 -- no message follows it on its connection
 abbrev pub closes : Message → Bool
@@ -98,7 +91,7 @@ route_of login m = if is_plain m then asked m.method (content_type_of m) (name_a
 
 -- the log has room for one command more
 abbrev pub fits : ℕ → History → Put → Bool
-fits limit h put = nat_lt (length h) most_commands && nat_le (log_size (payloads_of_history h) + 21 + length (payload_of put)) limit
+fits limit h put = nat_lt (length h) MOST_COMMANDS && nat_le (log_size (payloads_of_history h) + 21 + length (payload_of put)) limit
 
 -- the reply to a GET
 abbrev pub found : Option Stored → ℕ → ℕ → Reply

@@ -5,7 +5,8 @@ use Rattle.mt_disk.specs.Files.{Files}
 use Rattle.mt_log.specs.LogImage.{IsBeforeOrAfter, log_size, payloads, payloads_of}
 use Rattle.mt_log.specs.LogState.{LogState, size_with, told, with_payload, with_record}
 use Rattle.mt_server.specs.Answer.{fits}
-use Rattle.mt_server.specs.Store.{ArePuts, History, State, most_commands, replay, payloads_of_history}
+use Rattle.mt_server.specs.Store.{ArePuts, History, State, replay, payloads_of_history}
+use Rattle.mt_types.specs.declared.limits.TheConstants.{MOST_COMMANDS}
 use Rattle.mt_server.specs.declared.accepted.Accepted.{Accepted}
 use Rattle.mt_server.specs.declared.accepted.Accepted.TheVariants as accepted
 use Rattle.mt_server.specs.declared.put.Put.{Put}
@@ -16,7 +17,7 @@ pub record EngineState : Type 0 where
 
 -- the log lets in one command more, whose payload has so many bytes
 abbrev pub has_room : EngineState → ℕ → Bool
-has_room engine payload = nat_lt engine.state.count most_commands && nat_le (size_with engine.log payload) engine.log.limit
+has_room engine payload = nat_lt engine.state.count MOST_COMMANDS && nat_le (size_with engine.log payload) engine.log.limit
 
 -- the files' log has this history
 pub record HasHistory (files : Files) (h : History) : Type 0 where
@@ -51,12 +52,12 @@ abbrev pub AllHaveEither : (Files → Type 0) → History → History → Type 0
 AllHaveEither images h added = (c : Files) → images c → HasHistory c h ⊎ HasHistory c (h ++ added)
 
 -- What became of a payload that there was room for.
-abbrev pub Writes : List ℕ → (seen : Option Files) (old : EngineState) (faults : ℕ) → Accepted → (seen' : Option Files) (new : EngineState) (faults' : ℕ) (images : Files → Type 0) → Type 0
-Writes payload seen old faults accepted.Added seen' new faults' images = (told seen' ≡ with_payload payload (told seen)) × (new ≡ record old { log = with_record old.log (length payload) }) × NeverFell faults faults'
-Writes payload seen old faults accepted.DiskFault seen' new faults' images =
+abbrev pub WritesPayload : List ℕ → (seen : Option Files) (old : EngineState) (faults : ℕ) → Accepted → (seen' : Option Files) (new : EngineState) (faults' : ℕ) (images : Files → Type 0) → Type 0
+WritesPayload payload seen old faults accepted.Added seen' new faults' images = (told seen' ≡ with_payload payload (told seen)) × (new ≡ record old { log = with_record old.log (length payload) }) × NeverFell faults faults'
+WritesPayload payload seen old faults accepted.DiskFault seen' new faults' images =
     ((files : Files) → seen ≡ Some files → (c : Files) → images c → IsBeforeOrAfter files (payload ∷ []) c) × (new ≡ record old { log = record old.log { closed = true } }) × Rose faults faults'
-Writes payload seen old faults accepted.Full seen' new faults' images = ⊥
-Writes payload seen old faults accepted.Memory seen' new faults' images = ⊥
+WritesPayload payload seen old faults accepted.Full seen' new faults' images = ⊥
+WritesPayload payload seen old faults accepted.Memory seen' new faults' images = ⊥
 
 -- What became of a command over a history: the engine and what the disk tells, before and after, and the count of faults.
 abbrev pub Accepts : Bool → History → Put → (seen : Option Files) (old : EngineState) (faults : ℕ) → Accepted → (seen' : Option Files) (new : EngineState) (faults' : ℕ) (images : Files → Type 0) → Type 0

@@ -4,13 +4,14 @@ use Rattle.std.specs.List.{flat_map}
 use Rattle.std.specs.Fmt.{decimal}
 use Rattle.mt_disk.specs.Files.{Files}
 use Rattle.mt_disk.specs.CrashModel.{Only}
-use Rattle.mt_log.specs.declared.refusal.OpenError.{OpenError}
-use Rattle.mt_log.specs.declared.refusal.OpenError.TheVariants as refusal
+use Rattle.mt_log.specs.declared.open_error.OpenError.{OpenError}
+use Rattle.mt_log.specs.declared.open_error.OpenError.TheVariants as refusal
 use Rattle.mt_log.specs.LogImage.{LogFault, payloads, payloads_of}
 use Rattle.mt_log.specs.LogImage as fault
 use Rattle.mt_log.specs.Places.{end_of}
 use Rattle.mt_server.specs.EngineState.{EngineState, HasHistory}
-use Rattle.mt_server.specs.Store.{ArePuts, History, IsNoPut, most_commands, payloads_of_history, replay}
+use Rattle.mt_server.specs.Store.{ArePuts, History, IsNoPut, payloads_of_history, replay}
+use Rattle.mt_types.specs.declared.limits.TheConstants.{MOST_COMMANDS}
 use Rattle.mt_server.specs.declared.opening.Unreadable.{Unreadable}
 use Rattle.mt_server.specs.declared.opening.Unreadable.TheVariants as unreadable
 use Rattle.mt_server.specs.declared.opening.OpenEnd.{OpenEnd}
@@ -25,7 +26,7 @@ pub record IsForeignAt (files : Files) (at : ℕ) : Type 0 where
   pub read : payloads files ≡ Ok (payloads_of_history before ++ payload ∷ more)
   pub puts : ArePuts before
   -- as many commands as an account may have stand before it, or it is none
-  pub strange : (length before ≡ most_commands) ⊎ IsNoPut payload
+  pub strange : (length before ≡ MOST_COMMANDS) ⊎ IsNoPut payload
   pub place : at ≡ end_of (payloads_of_history before)
 
 -- files are refused so: by the first fault of their log, or by a record that is no command
@@ -40,7 +41,7 @@ IsRefused files (unreadable.Foreign at) = IsForeignAt files at
 pub record IsReadable (files : Files) : Type 0 where
   pub history : History
   pub has : HasHistory files history
-  pub few : length history ≤ most_commands
+  pub few : length history ≤ MOST_COMMANDS
 
 -- a number below 16 as a lower-case hexadecimal digit
 abbrev pub hex_digit : ℕ → ℕ

@@ -5,6 +5,7 @@ use Rattle.std.specs.Cmp.Lexicographic.{slice_cmp}
 use Rattle.std.specs.BTreeMap.{insert_entry, is_at}
 use Rattle.std.specs.Map.{lookup}
 use Rattle.mt_base.specs.Numbers.{big_endian_16, big_endian_32, big_endian_64}
+use Rattle.mt_types.specs.declared.limits.TheConstants.{NUMBERS_A_COMMAND}
 use Rattle.mt_server.specs.declared.put.Put.{Put}
 use Rattle.mt_server.specs.Stored.{Stored}
 
@@ -22,7 +23,7 @@ first_state = record { count = 0; rows = [] }
 
 -- the object that a put makes after so many commands
 abbrev pub made_by : ℕ → Put → Stored
-made_by count put = record { number = count * 4096; content_type = put.content_type; body = put.body; mtime = put.moment }
+made_by count put = record { number = count * NUMBERS_A_COMMAND; content_type = put.content_type; body = put.body; mtime = put.moment }
 
 -- one command more
 abbrev pub step : State → Put → State
@@ -79,7 +80,3 @@ IsNoPut payload = (put : Put) → IsPut put → payload_of put ≢ payload
 -- the payloads of a history
 abbrev pub payloads_of_history : History → List (List ℕ)
 payloads_of_history h = map payload_of h
-
--- the largest number of commands that an account may have
-abbrev pub most_commands : ℕ
-most_commands = 1125899906842623

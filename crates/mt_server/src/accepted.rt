@@ -9,6 +9,6 @@ pub enum Accepted {
     Full,
     /// The disk failed, and counted it. The log has the command or not, and takes no more.
     DiskFault,
-    /// Memory was wanted. Nothing was written.
+    /// Out of memory. Nothing was written.
     Memory,
 }

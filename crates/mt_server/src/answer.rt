@@ -24,7 +24,7 @@ pub enum Answered {
     Replied(Bytes),
     /// The disk failed, and counted it. The log has the message's command or not, and takes no more.
     DiskFault,
-    /// Memory was wanted. Nothing was written.
+    /// Out of memory. Nothing was written.
     Memory,
 }
 

@@ -30,7 +30,7 @@ pub enum ConnectionEnd {
     SinkFault,
     /// The disk failed, and counted it.
     DiskFault,
-    /// Memory was wanted.
+    /// Out of memory.
     Memory,
     /// The source ended within a message.
     Truncated,

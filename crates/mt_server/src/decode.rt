@@ -5,9 +5,8 @@ ghost use Rattle.mt_server.specs.Store.{IsNoPut, IsPut, body_32, payload_of, tex
 ghost use Rattle.mt_server.specs.declared.decode.DecodeError.TheVariants.{Memory};
 
 use crate::put::Put;
-use mt_base::Bytes;
+use mt_base::{Bytes, LAST_MOMENT};
 use mt_bytes::Cursor;
-use mt_ident::LAST_MOMENT;
 use std::alloc::{AllocError, Global};
 
 /// A name and a content type have at most so many bytes.
@@ -21,7 +20,7 @@ const MOST_BODY: u32 = 1_073_741_824;
 pub enum DecodeError {
     /// No put has these bytes.
     NotAPut,
-    /// Memory was wanted.
+    /// Out of memory.
     Memory,
 }
 

@@ -3,11 +3,11 @@ ghost use Rattle.std.specs.Prelude.{◌≡◌, ◌≢◌, ◌+◌, ◌<◌, ◌^
 ghost use Rattle.std.specs.Option.{ForSome};
 ghost use Rattle.mt_log.specs.LogImage.{payloads};
 ghost use Rattle.mt_log.specs.LogState.{HasRoom, Stands};
-ghost use Rattle.mt_server.specs.EngineState.{IsCurrent, Accepts, Writes, has_room, told_images};
+ghost use Rattle.mt_server.specs.EngineState.{IsCurrent, Accepts, WritesPayload, has_room, told_images};
 ghost use Rattle.std.specs.Ordering.{nat_cmp};
 ghost use Rattle.std.specs.Cmp.Lexicographic.{slice_cmp};
 ghost use Rattle.std.specs.BTreeMap.{insert_entry};
-ghost use Rattle.mt_server.specs.Store.{History, IsPut, most_commands, object_at, step};
+ghost use Rattle.mt_server.specs.Store.{History, IsPut, object_at, step};
 
 use crate::accepted::Accepted;
 use crate::object::Object;
@@ -16,11 +16,9 @@ use crate::types::Engine;
 use mt_base::Bytes;
 use mt_disk::Disk;
 use mt_log::AppendError;
+use mt_types::{MOST_COMMANDS, NUMBERS_A_COMMAND};
 use std::alloc::{AllocError, Global};
 use std::collections::BTreeMap;
-
-/// The largest number of commands of an account.
-pub(crate) const MOST_COMMANDS: u64 = (1 << 50) - 1;
 
 impl Engine {
     /// The number of commands so far.
@@ -47,13 +45,13 @@ impl Engine {
 
     /// The state after a put. Where memory is wanted it stays.
     pub(crate) fn change(&mut self, put: Put) -> Result<(), AllocError>
-        requires room { self.old.state.count < most_commands }
+        requires room { self.old.state.count < MOST_COMMANDS }
         requires put { IsPut put }
         ensures changed { OnOk result (self.new ≡ record self.old { state = step self.old.state put }) }
         ensures err { OnErr result (self.new ≡ self.old) }
     {
         let object = Object {
-            number: self.count * 4096,
+            number: self.count * NUMBERS_A_COMMAND,
             content_type: put.content_type,
             body: put.body,
             mtime: put.moment,
@@ -69,7 +67,7 @@ impl Engine {
         requires is_open { self.old.log.closed ≡ false }
         requires room { HasRoom self.old.log (length payload.now) }
         requires small { length payload.now < 2 ^ 32 }
-        ensures written { (tells : Bool) → Writes payload.now (D.seen disk.old) self.old (D.faults disk.old) result (D.seen disk.new) self.new (D.faults disk.new)
+        ensures written { (tells : Bool) → WritesPayload payload.now (D.seen disk.old) self.old (D.faults disk.old) result (D.seen disk.new) self.new (D.faults disk.new)
             (told_images tells (D.may_leave disk.new)) }
         ensures read { ForSome (D.seen disk.old) (λ files. self.old.log.is_old ≡ false → IsOk (payloads files)) }
         ensures stands { Stands D.seen D.may_leave disk.new self.new.log }

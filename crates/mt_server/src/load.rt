@@ -8,23 +8,20 @@ ghost use Rattle.mt_log.specs.LogState.{Settled, Stands, next_place, told};
 ghost use Rattle.mt_log.specs.Places.{IsPlace, payload_at};
 ghost use Rattle.mt_server.specs.EngineState.{IsCurrent, OverHistory};
 ghost use Rattle.mt_server.specs.Opening.{IsLoading, IsReadable, IsRefused, KeepsLogs};
-ghost use Rattle.mt_server.specs.Store.{History, IsNoPut, IsPut, first_state, most_commands, payload_of};
+ghost use Rattle.mt_server.specs.Store.{History, IsNoPut, IsPut, first_state, payload_of};
 ghost use Rattle.mt_server.specs.declared.opening.Unreadable.{Unreadable};
 ghost use Rattle.mt_server.specs.declared.put.Put.{Put};
 ghost use Rattle.mt_server.specs.declared.opening.Unreadable.TheVariants.{Foreign};
 
 use crate::decode::{DecodeError, decode};
-use crate::engine::MOST_COMMANDS;
 use crate::opening::{OpenEnd, Unreadable, refused};
 use crate::put::Put;
 use crate::types::Engine;
 use mt_disk::Disk;
 use mt_log::{Log, ReadFault};
+use mt_types::MOST_COMMANDS;
 use std::alloc::Global;
 use std::collections::BTreeMap;
-
-/// What a record has beside its payload.
-const RECORD_HEAD: u64 = 1 + 4 + 16;
 
 impl Engine {
     // Reads the put at a place. The bytes of its record are those of the list then.
@@ -58,16 +55,6 @@ impl Engine {
         }
     }
 
-    // Whether a record with so many bytes of payload ends before the closed gate.
-    fn holds_record(&self, place: u64, payload: u64) -> bool
-        requires { place < self.now.log.gate }
-        ensures ends { IsTrue result ↔ (next_place place payload ≤ self.now.log.gate) }
-        ensures small { IsTrue result → next_place place payload < 2 ^ 64 }
-    {
-        let left = self.log.len() - 1 - place;
-        left >= RECORD_HEAD && left - RECORD_HEAD >= payload
-    }
-
     // Takes the put at a place into the state, and gives the place behind it.
     fn load_one<D: Disk>(
         &mut self,
@@ -82,7 +69,7 @@ impl Engine {
         requires inside { place < self.old.log.gate }
         ensures loaded { (h : History) → IsLoading (D.seen disk.old) self.old place h → IfOk result (λ next. (put : Put) × IsLoading (D.seen disk.new) self.new next (h ++ put ∷ [])) }
         ensures next { IfOk result (λ next. (place < next) × (next ≤ self.old.log.gate)) }
-        ensures small { OnOk result (self.new.state.count ≤ most_commands) }
+        ensures small { OnOk result (self.new.state.count ≤ MOST_COMMANDS) }
         ensures foreign { (h : History) (why : Unreadable) → IsLoading (D.seen disk.old) self.old place h → self.old.log.is_old ≡ false → result ≡ Err (OpenEnd.Unreadable why) →
             ForSome (D.seen disk.old) (λ files. IsRefused files why) }
         ensures log { self.new.log ≡ self.old.log }
@@ -99,14 +86,15 @@ impl Engine {
             return Err(OpenEnd::Unreadable(Unreadable::Foreign { at: place }));
         }
         // Only a disk that tells nothing may give a longer record than the one that was read when it was opened.
-        if !self.holds_record(place, len) {
-            return Err(OpenEnd::Unreadable(Unreadable::Foreign { at: place }));
-        }
+        let next = match self.log.next(place, len) {
+            Some(next) => next,
+            None => return Err(OpenEnd::Unreadable(Unreadable::Foreign { at: place })),
+        };
         match self.change(put) {
             Ok(()) => {}
             Err(_) => return Err(OpenEnd::Memory),
         }
-        Ok(self.log.next(place, len))
+        Ok(next)
     }
 
     // Reads the commands of a log that was opened.
@@ -115,7 +103,7 @@ impl Engine {
         requires is_open { self.old.log.closed ≡ false }
         requires version { self.old.log.is_old ≡ false }
         requires empty { self.old.state ≡ first_state }
-        ensures small { OnOk result (self.new.state.count ≤ most_commands) }
+        ensures small { OnOk result (self.new.state.count ≤ MOST_COMMANDS) }
         ensures loaded { OnOk result ((h : History) × IsCurrent (is_some (D.seen disk.old)) (D.seen disk.new) self.new h) }
         ensures foreign { (why : Unreadable) → result ≡ Err (OpenEnd.Unreadable why) → ForSome (D.seen disk.old) (λ files. IsRefused files why) }
         ensures log { self.new.log ≡ self.old.log }

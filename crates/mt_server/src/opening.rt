@@ -39,7 +39,7 @@ pub enum OpenEnd {
     Unreadable(Unreadable),
     /// The disk failed, and counted it.
     Disk,
-    /// Memory was wanted.
+    /// Out of memory.
     Memory,
 }
 

@@ -9,6 +9,7 @@ use crate::put::Put;
 use mt_base::{Bytes, Duplicate, Sequence, Text};
 use mt_http::Field;
 use mt_ident::{http_date, md5_of, md5_text, uuid_text};
+use mt_types::NUMBERS_A_COMMAND;
 use std::alloc::{AllocError, Global};
 
 /// A status code (RFC 9110, section 15).
@@ -200,7 +201,7 @@ pub(crate) fn put_reply(alloc: Global, put: &Put, count: u64) -> Result<Reply, A
     let fields = [
         digest(alloc, "computed-md5", put.body.as_slice())?,
         date(alloc, put.moment)?,
-        etag(alloc, count * 4096)?,
+        etag(alloc, count * NUMBERS_A_COMMAND)?,
         last_modified(alloc, put.moment)?,
         position(alloc, count + 1)?,
     ];

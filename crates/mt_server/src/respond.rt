@@ -21,7 +21,7 @@ pub enum Responded {
     SinkFault,
     /// The disk failed, and counted it. Nothing of a reply was written.
     DiskFault,
-    /// Memory was wanted. Nothing was added or written.
+    /// Out of memory. Nothing was added or written.
     Memory,
 }
 

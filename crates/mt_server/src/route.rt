@@ -1,11 +1,11 @@
 //! What a message asks for.
 ghost use Rattle.std.specs.Prelude.{◌≡◌, ◌&&◌, ◌||◌, ◌==◌, not, nat_le, codes, length, map, filter, IfOk, option_map, option_copied, unwrap_or};
 ghost use Rattle.std.specs.List.{list_all, list_any};
-ghost use Rattle.mt_server.specs.Answer.{asked_for, asks_for_more, closes, content_type_of, first_value, is_blank, is_dots, is_later_name, is_name, is_name_byte, is_object_kind, is_plain, is_visible, kind_text, makes_object, name_at, route_of, stor_of};
-ghost use Rattle.mt_http.specs.Message.{is_named};
+ghost use Rattle.mt_server.specs.Answer.{asked_for, asks_for_more, closes, content_type_of, is_dots, is_later_name, is_name, is_name_byte, is_object_kind, is_plain, is_visible, kind_text, makes_object, name_at, route_of, stor_of};
 
-use mt_base::Bytes;
+use mt_base::{Bytes, is_blank};
 use mt_http::{Field, Message};
+use mt_types::first_value;
 use std::alloc::{AllocError, Global};
 
 /// What a message asks for, as far as it is built.
@@ -21,29 +21,11 @@ pub enum Route {
 /// The content type of an object that came without one.
 const OCTET_STREAM: &[u8] = b"application/octet-stream";
 
-fn is_blank_byte(byte: u8) -> bool
-    ensures { result ≡ is_blank byte }
-{
-    byte == b' ' || byte == b'\t'
-}
-
 /// Whether no message follows this one on its connection.
 pub(crate) fn is_last(message: &Message) -> bool
     ensures { result ≡ closes message.now }
 {
     mt_http::closes(message.minor, message.fields.as_slice())
-}
-
-// The value of the first field of a name.
-fn value_of<'a>(fields: &'a [Field], name: &str) -> Option<&'a [u8]>
-    ensures { option_map (λ v. v.now) result ≡ first_value name.now fields.now }
-{
-    for field in fields {
-        if field.name.as_str() == name {
-            return Some(field.value.as_slice());
-        }
-    }
-    None
 }
 
 fn is_later(name: &str) -> bool
@@ -115,7 +97,7 @@ fn kind_of(alloc: Global, value: &[u8]) -> Result<Vec<u8>, AllocError>
 {
     value
         .iter()
-        .filter(|byte| !is_blank_byte(**byte))
+        .filter(|byte| !is_blank(**byte))
         .map(|byte| byte.to_ascii_lowercase())
         .collect(alloc)
 }
@@ -157,7 +139,7 @@ fn any_later(fields: &[Field]) -> bool
 fn content_type(message: &Message) -> &[u8]
     ensures { result.now ≡ content_type_of message.now }
 {
-    match value_of(message.fields.as_slice(), "content-type") {
+    match first_value(message.fields.as_slice(), "content-type") {
         Some(value) => value,
         None => OCTET_STREAM,
     }

@@ -4,9 +4,8 @@ ghost use Rattle.std.specs.List.{list_all};
 ghost use Rattle.mt_server.specs.declared.settings.SettingsError.TheVariants.{Memory};
 ghost use Rattle.mt_server.specs.Words.{are_options, is_login, is_login_byte, is_option, limit_by, moment_by, session_of, settings_by, settings_of, small_moment, values_of};
 
-use mt_base::Text;
+use mt_base::{LAST_MOMENT, Text};
 use mt_bytes::read_decimal;
-use mt_ident::LAST_MOMENT;
 use std::alloc::{AllocError, Global};
 
 /// What the words ask for: one session.
@@ -36,7 +35,7 @@ const GREATEST_LIMIT: u64 = 1 << 36;
 pub enum SettingsError {
     /// The words are not of the grammar.
     Usage,
-    /// Memory was wanted.
+    /// Out of memory.
     Memory,
 }
 

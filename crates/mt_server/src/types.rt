@@ -16,10 +16,11 @@ pub struct Engine {
 impl Model for Engine {
     ghost use Rattle.std.specs.Prelude.{◌≤◌};
     ghost use Rattle.mt_server.specs.EngineState.{EngineState};
+    ghost use Rattle.mt_types.specs.declared.limits.TheConstants.{MOST_COMMANDS};
 
     ghost Value = { EngineState };
 
     ghost view = { λ e. record { log = e.log; state = record { count = e.count; rows = e.rows.entries } } };
 
-    ghost invariant = { λ e. e.count ≤ 1125899906842623 };
+    ghost invariant = { λ e. e.count ≤ MOST_COMMANDS };
 }

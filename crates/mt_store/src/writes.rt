@@ -53,7 +53,7 @@ pub fn may_delete<B>(tree: &Tree<B>, path: &Path, conditions: &Conditions) -> Re
     }
 }
 
-/// What the verdict of the conditions on a write is answered.
+// What the verdict of the conditions on a write is answered.
 fn verdict(judged: Judged) -> Result<(), StoreError>
     ensures { result ≡ verdict judged }
 {

@@ -78,7 +78,7 @@ pub fn remove_kept<B: Drop>(rows: &mut Kept<B>, path: &[Bytes])
     let _ = rows.remove(path);
 }
 
-/// Whether no row stands at a path.
+// Whether no row stands at a path.
 fn is_new<B>(rows: &Kept<B>, path: &[Bytes]) -> bool
     ensures { result ≡ not (is_some (lookup (is_key path.now) rows.now.entries)) }
 {

@@ -13,6 +13,6 @@ pub mod plain;
 mod tree;
 
 pub use mt_types::{
-    Area, Bytes, Duplicate, Entry, Object, Path, Refusal, Row, Rows, Sequence, Text,
+    Area, Bytes, Duplicate, Entry, Object, Path, Refusal, Row, RowList, Sequence, Text,
 };
 pub use tree::Tree;

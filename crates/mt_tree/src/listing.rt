@@ -8,6 +8,7 @@ ghost use Rattle.mt_tree.specs.Kept.{in_area, rows_of};
 ghost use Rattle.mt_tree.specs.Walk.{begins, next_name, rows_after, shown};
 
 use crate::kept::{Kept, KeptRow};
+use mt_base::copy_all;
 use mt_types::{Area, Bytes, Duplicate, Entry, Path, Row};
 use std::alloc::{AllocError, Global};
 use std::cmp::Ordering;
@@ -69,14 +70,14 @@ pub fn copy_rows<B: Duplicate>(
         Ordering::Less => Ok(()),
         Ordering::Greater => push_rows(alloc, area, rows.range(..), limit, out),
         Ordering::Equal => {
-            let start = copied(alloc, path.parts())?;
+            let start = copy_all(alloc, path.parts())?;
             let rest = rows.range((Bound::Excluded(&start), Bound::Unbounded));
             push_rows(alloc, area, rest, limit, out)
         }
     }
 }
 
-/// Adds rows at the end of a list, until it has `limit`.
+// Adds rows at the end of a list, until it has `limit`.
 fn push_rows<B: Duplicate>(
     alloc: Global,
     area: Area,
@@ -96,14 +97,14 @@ fn push_rows<B: Duplicate>(
     Ok(())
 }
 
-/// Whether one path begins with another.
+// Whether one path begins with another.
 fn begins(dir: &[Bytes], path: &[Bytes]) -> bool
     ensures { result ≡ begins dir.now path.now }
 {
     dir.len() <= path.len() && path[..dir.len()] == dir[..]
 }
 
-/// A row as a listing shows it.
+// A row as a listing shows it.
 fn shown<B: Duplicate>(
     alloc: Global,
     area: Area,
@@ -113,14 +114,14 @@ fn shown<B: Duplicate>(
     requires { IsPath (record { area = area; parts = path.now }) }
     ensures { IfOk result (λ row. row ≡ shown area path.now entry.now) }
 {
-    let parts = copied(alloc, path)?;
+    let parts = copy_all(alloc, path)?;
     Ok(Row {
         path: Path::from_parts(area, parts),
         entry: entry.copy(alloc)?,
     })
 }
 
-/// The path of the least name above a name, in a directory.
+// The path of the least name above a name, in a directory.
 fn next_below(alloc: Global, dir: &[Bytes], name: &Bytes) -> Result<Vec<Bytes>, AllocError>
     ensures { IfOk result (λ v. v.items ≡ dir.now ++ next_name name.now ∷ []) }
 {
@@ -129,21 +130,11 @@ fn next_below(alloc: Global, dir: &[Bytes], name: &Bytes) -> Result<Vec<Bytes>, 
     below(alloc, dir, next)
 }
 
-/// The path of a name in a directory.
+// The path of a name in a directory.
 fn below(alloc: Global, dir: &[Bytes], name: Vec<u8>) -> Result<Vec<Bytes>, AllocError>
     ensures { IfOk result (λ v. v.items ≡ dir.now ++ name.items ∷ []) }
 {
-    let mut path = copied(alloc, dir)?;
+    let mut path = copy_all(alloc, dir)?;
     path.push(Bytes::from_vec(name))?;
     Ok(path)
-}
-
-fn copied(alloc: Global, parts: &[Bytes]) -> Result<Vec<Bytes>, AllocError>
-    ensures { IfOk result (λ v. v.items ≡ parts.now) }
-{
-    let mut copies = Vec::with_capacity(alloc, parts.len())?;
-    for part in parts {
-        copies.push(part.copy(alloc)?)?;
-    }
-    Ok(copies)
 }

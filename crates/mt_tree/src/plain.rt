@@ -4,7 +4,7 @@ ghost use Rattle.mt_model.specs.Listing.{is_from, listing, name_of, result_set_s
 ghost use Rattle.mt_model.specs.Rows.{is_child, row_of};
 ghost use Rattle.mt_tree.specs.Plain.{pairs};
 
-use mt_types::{Duplicate, Path, Row, Rows, Sequence};
+use mt_types::{Duplicate, Path, Row, RowList, Sequence};
 use std::alloc::{AllocError, Global};
 
 /// What [`crate::Tree::list`] gives of a tree that has these rows.
@@ -14,7 +14,7 @@ pub fn list<B: Duplicate>(
     dir: &Path,
     marker: &[u8],
     limit: usize,
-) -> Result<Rows<B>, AllocError>
+) -> Result<RowList<B>, AllocError>
     ensures { IfOk result (λ page. page ≡ map row_of (listing (pairs rows.now) dir.now marker.now limit)) }
 {
     let mut page = Sequence::new(alloc);
@@ -43,28 +43,28 @@ pub fn count<B>(rows: &[Row<B>], dir: &Path) -> u64
     n
 }
 
-/// Whether a page from a marker on may have this path.
+// Whether a page from a marker on may have this path.
 fn is_listed(dir: &Path, marker: &[u8], path: &Path) -> bool
     ensures { result ≡ (is_child dir.now path.now && is_from marker.now path.now) }
 {
     is_child(dir, path) && is_from(marker, path)
 }
 
-/// Whether one path is one below another.
+// Whether one path is one below another.
 fn is_child(dir: &Path, path: &Path) -> bool
     ensures { result ≡ is_child dir.now path.now }
 {
     path.is_under(dir) && path.len() - dir.len() == 1
 }
 
-/// Whether the name of a path is not below the marker.
+// Whether the name of a path is not below the marker.
 fn is_from(marker: &[u8], path: &Path) -> bool
     ensures { result ≡ is_from marker.now path.now }
 {
     marker.cmp(name_of(path)).is_le()
 }
 
-/// The last component of a path; of a root, no bytes.
+// The last component of a path; of a root, no bytes.
 fn name_of(path: &Path) -> &[u8]
     ensures { result.now ≡ name_of path.now }
 {

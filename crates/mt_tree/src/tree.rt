@@ -9,7 +9,7 @@ ghost use Rattle.mt_tree.specs.Walk.{rows_after};
 
 use crate::areas::Areas;
 use crate::listing::{copy_rows, list_rows};
-use mt_types::{Area, Bytes, Duplicate, Entry, Object, Path, Refusal, Rows, Sequence};
+use mt_types::{Area, Bytes, Duplicate, Entry, Object, Path, Refusal, RowList, Sequence};
 use std::alloc::{AllocError, Global};
 use std::marker::Model;
 
@@ -66,7 +66,7 @@ impl<B> Tree<B> {
     }
 
     /// Whether a directory may be made at a path. Takes no memory, at the cost of two look-ups.
-    pub fn may_make_dir(&self, path: &Path) -> Result<(), Refusal>
+    pub fn may_make_directory(&self, path: &Path) -> Result<(), Refusal>
         ensures { result ≡ answer (make_directory_refusal self.now path.now) }
     {
         if self.get(path).is_some() {
@@ -104,9 +104,9 @@ impl<B> Tree<B> {
         Ok(())
     }
 
-    /// Makes a directory at a path, at a moment in seconds since 1970. [`Tree::may_make_dir`] has to allow it.
+    /// Makes a directory at a path, at a moment in seconds since 1970. [`Tree::may_make_directory`] has to allow it.
     /// On an error, which is want of memory, the tree is as it was.
-    pub fn make_dir(&mut self, path: Path, moment: u64) -> Result<(), AllocError>
+    pub fn make_directory(&mut self, path: Path, moment: u64) -> Result<(), AllocError>
     where
         B: Drop,
         requires { make_directory_refusal self.old path ≡ None }
@@ -147,7 +147,7 @@ impl<B> Tree<B> {
         dir: &Path,
         marker: &[u8],
         limit: usize,
-    ) -> Result<Rows<B>, AllocError>
+    ) -> Result<RowList<B>, AllocError>
     where
         B: Duplicate,
         ensures { IfOk result (λ rows. rows ≡ map row_of (listing self.now dir.now marker.now limit)) }
@@ -165,7 +165,7 @@ impl<B> Tree<B> {
         alloc: Global,
         after: Option<&Path>,
         limit: usize,
-    ) -> Result<Rows<B>, AllocError>
+    ) -> Result<RowList<B>, AllocError>
     where
         B: Duplicate,
         ensures { IfOk result (λ rows. rows ≡ map row_of (take limit (rows_after (option_copied after.entry) self.now))) }
@@ -178,7 +178,7 @@ impl<B> Tree<B> {
         Ok(Sequence::from_vec(out))
     }
 
-    /// What stands at the path of these components.
+    // What stands at the path of these components.
     fn entry(&self, area: Area, parts: &[Bytes]) -> Option<&Entry<B>>
         ensures { option_copied result ≡ at self.now (record { area = area; parts = parts.now }) }
     {
@@ -188,7 +188,7 @@ impl<B> Tree<B> {
         }
     }
 
-    /// Whether a row may stand at a path: a directory above it, or none where it is a root.
+    // Whether a row may stand at a path: a directory above it, or none where it is a root.
     fn may_stand(&self, path: &Path) -> Result<(), Refusal>
         ensures { result ≡ answer (parent_refusal self.now path.now) }
     {

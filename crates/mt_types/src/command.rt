@@ -155,7 +155,7 @@ impl<B: Duplicate> Duplicate for Command<B> {
     }
 }
 
-/// A copy of a command on what stands at paths.
+// A copy of a command on what stands at paths.
 fn copy_of_rows<B: Duplicate>(alloc: Global, command: &Command<B>) -> Result<Command<B>, AllocError>
     requires { kind_of command.now ≡ OnRows }
     ensures { IfOk result (λ c. c ≡ command.now) }
@@ -197,7 +197,7 @@ fn copy_of_rows<B: Duplicate>(alloc: Global, command: &Command<B>) -> Result<Com
     }
 }
 
-/// A copy of a command that makes a job, or adds to it.
+// A copy of a command that makes a job, or adds to it.
 fn copy_of_jobs<B: Duplicate>(alloc: Global, command: &Command<B>) -> Result<Command<B>, AllocError>
     requires { kind_of command.now ≡ OnJobs }
     ensures { IfOk result (λ c. c ≡ command.now) }
@@ -233,7 +233,7 @@ fn copy_of_jobs<B: Duplicate>(alloc: Global, command: &Command<B>) -> Result<Com
     }
 }
 
-/// A copy of a command that ends a job.
+// A copy of a command that ends a job.
 fn copy_of_ends<B: Duplicate>(alloc: Global, command: &Command<B>) -> Result<Command<B>, AllocError>
     requires { kind_of command.now ≡ OnEnds }
     ensures { IfOk result (λ c. c ≡ command.now) }
@@ -262,7 +262,7 @@ fn copy_of_ends<B: Duplicate>(alloc: Global, command: &Command<B>) -> Result<Com
     }
 }
 
-/// A copy of a command on an upload.
+// A copy of a command on an upload.
 fn copy_of_uploads<B: Duplicate>(
     alloc: Global,
     command: &Command<B>,

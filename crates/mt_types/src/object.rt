@@ -54,7 +54,7 @@ pub struct Row<B> {
 }
 
 /// Rows, in the order of their paths.
-pub type Rows<B> = Sequence<Row<B>>;
+pub type RowList<B> = Sequence<Row<B>>;
 
 impl Duplicate for Field {
     fn copy(&self, alloc: Global) -> Result<Field, AllocError> {

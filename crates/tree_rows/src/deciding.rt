@@ -36,7 +36,7 @@ fn put_tests(alloc: Global, tree: &Tree<u64>, row: &Row, out: &mut String) -> Re
     out.push_str("put ")?;
     put_answer(tree.may_put(&path), out)?;
     out.push_str(", make ")?;
-    put_answer(tree.may_make_dir(&path), out)?;
+    put_answer(tree.may_make_directory(&path), out)?;
     out.push_str(", remove ")?;
     put_answer(tree.may_remove(&path), out)?;
     Ok(())

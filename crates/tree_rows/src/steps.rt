@@ -40,9 +40,9 @@ impl Steps {
     // `directory PATH MOMENT`
     fn make(&mut self, alloc: Global, row: &Row, out: &mut String) -> Result<(), Stop> {
         let path = path_at(alloc, row, 1)?;
-        match self.tree.may_make_dir(&path) {
+        match self.tree.may_make_directory(&path) {
             Ok(()) => {
-                self.tree.make_dir(path, row.number(2)?)?;
+                self.tree.make_directory(path, row.number(2)?)?;
                 out.push_str("Ok")?;
             }
             Err(refusal) => write!(out, "{refusal:?}")?,

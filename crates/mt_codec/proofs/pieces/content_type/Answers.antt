@@ -1,5 +1,5 @@
 use Rattle.std.proofs.Common.{rules, ◌≡◌, true}
-use Rattle.mt_codec.specs.Limits.{is_content_type}
+use Rattle.mt_types.specs.Limits.{is_content_type}
 use Rattle.mt_codec.proofs.Utf8.{utf8-content_type}
 use Rattle.mt_codec.proofs.pieces.content_type.Goals as goal
 

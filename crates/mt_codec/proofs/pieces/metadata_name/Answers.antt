@@ -1,5 +1,5 @@
 use Rattle.std.proofs.Common.{rules, ◌≡◌, true}
-use Rattle.mt_codec.specs.Limits.{is_metadata_name}
+use Rattle.mt_types.specs.Limits.{is_metadata_name}
 use Rattle.mt_codec.proofs.Utf8.{utf8-metadata_name}
 use Rattle.mt_codec.proofs.pieces.metadata_name.Goals as goal
 

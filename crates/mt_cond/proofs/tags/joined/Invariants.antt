@@ -1,7 +1,7 @@
 -- The value so far, and the values of the fields to come, are all of them joined.
 use Rattle.std.proofs.Common.{◌≡◌, drop}
 use Rattle.std.specs.Option.{option_map}
-use Rattle.mt_cond.specs.Fields.{values_of}
+use Rattle.mt_types.specs.Fields.{values_of}
 use Rattle.mt_cond.specs.Tags.{joined}
 use Rattle.mt_cond.proofs.Joined.{joined_behind}
 use Rattle.mt_cond.proofs.tags.joined.Given as goal

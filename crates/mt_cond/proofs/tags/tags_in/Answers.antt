@@ -4,7 +4,8 @@ use Rattle.std.specs.declared.alloc.AllocError.{AllocError}
 use Rattle.std.proofs.lemmas.Iterator.{items_from_collect}
 use Rattle.std.proofs.lemmas.Iterator.Consumers.{YieldsList-from_filter_map}
 use Rattle.std.proofs.lemmas.Iterator.Splits.{YieldsList-from_slice_split}
-use Rattle.mt_cond.specs.Tags.{comma, tag_of, trimmed}
+use Rattle.mt_base.specs.Blanks.{trimmed}
+use Rattle.mt_cond.specs.Tags.{comma, tag_of}
 use Rattle.mt_cond.proofs.tags.tags_in.Goals as goal
 
 pub returns : goal.returns

@@ -1,6 +1,6 @@
 -- The other values are among the fields that are left.
 use Rattle.std.proofs.Common.{◌≡◌, ◌+◌, ◌≤◌, drop, length}
-use Rattle.mt_http.specs.Message.{values_of}
+use Rattle.mt_types.specs.Fields.{values_of}
 use Rattle.mt_http.proofs.framing.count_of.Given as goal
 
 abbrev pub invariant-loop-field : goal.invariant-loop-field

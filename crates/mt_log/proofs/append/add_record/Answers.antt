@@ -7,6 +7,7 @@ use Rattle.mt_log.specs.LogImage.{IsBeforeOrAfter}
 use Rattle.mt_log.specs.LogState.{Tells}
 use Rattle.mt_log.specs.Stage.{KeepsFront, changed, staged}
 use Rattle.mt_log.proofs.Added.{before_or_after_of, front_is_before, front_same_list, front_swap}
+use Rattle.mt_log.proofs.Others.{others_changed, others_on, some_changed}
 use Rattle.mt_log.proofs.Staged.{staged_files, staged_laid}
 use Rattle.mt_log.proofs.Told.{before}
 use Rattle.mt_log.proofs.append.add_record.Goals as goal
@@ -55,3 +56,8 @@ returns-clause-added g c = on_ok_weaker c.publish.result (λ added files is old 
     let laid = staged_laid files file gate old p log c.requires.payload kept in
     let list = ap (λ r. result_unwrap_or r []) (front_same_list files file gate old log _ kept true) in
     subst (λ (ps : List (List ℕ)). Tells d.seen d.may_leave c.publish.new.disk file (gate + 21 + length p) old (ps ++ p ∷ [])) list (added _ seen3 _ old (p ∷ []) laid)) c.publish.ensures.added
+
+pub returns-clause-others : goal.returns-clause-others
+returns-clause-others g c = on_ok_weaker c.publish.result (λ others.
+    let bytes = λ (l : List ℕ). staged l c.args.gate c.args.payload.now in
+    others_on c.args.file _ _ _ (some_changed c.args.file bytes _ _ c.in_ok-stage.ensures.staged) (others_changed c.args.file bytes _ _ c.in_ok-stage.ensures.staged) others) c.publish.ensures.others

@@ -4,6 +4,7 @@ use Rattle.mt_disk.specs.Files.{contents, overwritten}
 use Rattle.mt_disk.proofs.Moments.{leaves_now}
 use Rattle.mt_log.specs.Stage.{KeepsFront}
 use Rattle.mt_log.proofs.Laying.{laid_first, laid_next, next_within}
+use Rattle.mt_log.proofs.Others.{others_changed}
 use Rattle.mt_log.proofs.Told.{before}
 use Rattle.mt_log.proofs.lay.lay.Goals as goal
 
@@ -37,3 +38,9 @@ returns-in_ok-write_behind-2-clause-taken g c old records laying now is =
     let kept = leaves_now d.moment d.left_since d.may_leave _ _ (KeepsFront from.files file gate) (c.write_behind-else-next-gate.ensures.any_moment from.files from.was) (g.met.D.Disk.counts_now disk) now (g.met.D.Disk.seen_is_left disk now is) in
     laid_next from.files file gate next old records (laying from.files from.was) p now (omega (arith, c.requires.order, c.if-next-gate.false)) c.requires.payload kept
     (from.now ∙ ap (λ (l : List ℕ). overwritten (overwritten (contents from.files file) next l) (next + length l) p) c.open_head.ensures)
+
+pub returns-in_ok-write_behind-clause-others : goal.returns-in_ok-write_behind-clause-others
+returns-in_ok-write_behind-clause-others g c = others_changed c.args.file (λ (l : List ℕ). overwritten (overwritten l (c.args.gate + 1) c.head_bytes.result) (c.args.gate + 1 + length c.head_bytes.result) c.args.payload.now) _ _ c.in_ok-write_behind.ensures.written
+
+pub returns-in_ok-write_behind-2-clause-others : goal.returns-in_ok-write_behind-2-clause-others
+returns-in_ok-write_behind-2-clause-others g c = others_changed c.args.file (λ (l : List ℕ). overwritten (overwritten l c.args.next c.open_head.result) (c.args.next + length c.open_head.result) c.args.payload.now) _ _ c.in_ok-write_behind-2.ensures.written

@@ -1,5 +1,5 @@
 -- The records are synced, then their gate is written and synced.
-use Rattle.std.proofs.Common.{◌≡◌, ◌∷◌, [], Some, true, ap, sym, ◌∙◌, arith}
+use Rattle.std.proofs.Common.{◌≡◌, ℕ, List, ◌∷◌, [], Some, true, ap, sym, ◌∙◌, arith}
 use Rattle.std.proofs.lemmas.Option.{MatchOption-at_some}
 use Rattle.std.proofs.lemmas.Result.{on_ok_weaker}
 use Rattle.mt_disk.specs.Files.{overwritten}
@@ -8,6 +8,7 @@ use Rattle.mt_disk.proofs.Moments.{adds_none}
 use Rattle.mt_log.specs.LogImage.{IsBeforeOrAfter}
 use Rattle.mt_log.specs.Stage.{changed}
 use Rattle.mt_log.proofs.Added.{gate_is, opened_files, opened_is, opening, opens, syncing}
+use Rattle.mt_log.proofs.Others.{others_changed}
 use Rattle.mt_log.proofs.publish.publish.Goals as goal
 
 pub write_at-requires : goal.write_at-requires
@@ -49,3 +50,8 @@ returns-clause-added g c = on_ok_weaker c.sync-2.result (λ durable files is nex
     let only : Only four (d.may_leave c.sync-2.new.self) = λ f left. opens files file gate next old records laid f (opened.now f (c.sync-2.ensures.crash f left)) (same f left) in
     let stands = opened_is files file gate next old records laid in
     record { files = four; seen_is = c.sync-2.ensures.seen ∙ seen4; durable = only; log = stands.log; is = stands.is true }) c.sync-2.ensures.durable
+
+pub returns-clause-others : goal.returns-clause-others
+returns-clause-others g c = on_ok_weaker c.sync-2.result (λ durable.
+    let bytes = λ (l : List ℕ). overwritten l c.args.gate (1 ∷ []) in
+    others_changed c.args.file bytes _ _ (c.sync-2.ensures.seen ∙ c.in_ok-write_at.ensures.written ∙ ap (changed c.args.file bytes) c.sync.ensures.seen)) c.sync-2.ensures.durable

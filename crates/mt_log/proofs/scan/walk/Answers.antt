@@ -2,7 +2,7 @@
 use Rattle.std.proofs.Common.{◌≡◌, ℕ, ◌-◌, Bool, Some, Err, drop, ap, arith, subst, sym, ◌∙◌}
 use Rattle.mt_disk.specs.Files.{Files, contents}
 use Rattle.mt_disk.proofs.Readings.{reads_on}
-use Rattle.mt_log.specs.declared.refusal.OpenError.{OpenError}
+use Rattle.mt_log.specs.declared.open_error.OpenError.{OpenError}
 use Rattle.mt_log.specs.LogImage.{LogFault}
 use Rattle.mt_log.specs.Scan.{EndsWith, GateIs, HasLog, HasRecord, IsShut, StopsAt, Walked, WindowState, fault_of, rest_at}
 use Rattle.mt_log.proofs.Scans.{at_err, walked_on}
@@ -24,6 +24,7 @@ records-preserved g c =
       same = window_on first was mid now one two three;
       window = c.in_ok-pass_record.ensures.window;
       read = reads_on d.seen d.may_leave d.moment d.left_since _ _ _ (reads_on d.seen d.may_leave d.moment d.left_since _ _ _ c.records.invariant.read c.is_open.ensures.read) c.pass_record.ensures.read;
+      later = omega (arith, c.records.invariant.later, ap (λ (w : WindowState). w.at) two, c.in_ok-pass_record.ensures.moved.0);
       faults = omega (arith, c.records.invariant.faults, c.is_open.ensures.faults, c.pass_record.ensures.faults);
       walked = λ files is old front.
           let bytes = contents files first.file in

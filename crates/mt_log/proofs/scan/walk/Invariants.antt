@@ -1,4 +1,4 @@
-use Rattle.std.proofs.Common.{◌≡◌, ◌-◌, Bool}
+use Rattle.std.proofs.Common.{◌≡◌, ◌-◌, ◌≤◌, Bool}
 use Rattle.std.specs.Option.{ForSome}
 use Rattle.mt_base.specs.Counts.{NeverFell}
 use Rattle.mt_disk.specs.Files.{contents}
@@ -13,6 +13,7 @@ invariant-records g l =
       same : l.window ≡ record l.fn.window { at = l.window.at; held = l.window.held };
       window : ForSome (d.seen l.disk) (λ files. IsWindow files l.window);
       read : OnlyRead d.seen d.may_leave d.moment d.left_since l.fn.disk l.disk;
+      later : l.fn.window.at ≤ l.window.at;
       faults : NeverFell (d.faults l.fn.disk) (d.faults l.disk);
       walked : ForSome (d.seen l.fn.disk) (λ files. (old : Bool) → Walked old (contents files l.fn.window.file) l.fn.window.at → Walked old (contents files l.fn.window.file) l.window.at);
     }

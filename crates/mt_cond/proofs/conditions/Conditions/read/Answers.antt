@@ -1,6 +1,6 @@
 use Rattle.std.proofs.Common.{ap, ◌∙◌, codes}
 use Rattle.mt_cond.specs.Conditions.{conditions_of, date_in}
-use Rattle.mt_cond.specs.Fields.{values_of}
+use Rattle.mt_types.specs.Fields.{values_of}
 use Rattle.mt_cond.specs.Tags.{tag_list}
 use Rattle.mt_cond.proofs.conditions.Conditions.read.Goals as goal
 

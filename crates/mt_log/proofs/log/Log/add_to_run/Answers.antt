@@ -3,7 +3,7 @@ use Rattle.std.proofs.Common.{◌+◌, ◌++◌, ◌∷◌, [], length, ap, arit
 use Rattle.std.proofs.lemmas.Option.{same_Some}
 use Rattle.mt_disk.specs.Files.{Files}
 use Rattle.mt_disk.specs.CrashModel.{LeavesOnly}
-use Rattle.mt_log.specs.LogState.{LogState}
+use Rattle.mt_log.specs.LogState.{LogState, OthersStay}
 use Rattle.mt_log.specs.RunState.{RunState}
 use Rattle.mt_log.specs.Stage.{KeepsFront, Laying}
 use Rattle.mt_log.proofs.Running.{run_before, run_end, run_idle, run_list, running_on, told_same}
@@ -63,11 +63,16 @@ returns-in-Ok-clause-same g c =
     let any = subst (λ (s : LogState). LeavesOnly d.moment d.left_since c.args.disk.now c.lay.new.disk (KeepsFront files s.file s.gate)) c.self.view_is (c.lay.ensures.any_moment files was) in
     run_list d.seen d.may_leave d.moment d.left_since _ _ files now c.args.self.now c.args.run.now (c.requires.running is_open files was) any (g.met.D.Disk.counts_now c.lay.new.disk) (g.met.D.Disk.seen_is_left c.lay.new.disk now is))
 
-pub returns-then-not-has_room-clause-any_moment : goal.returns-then-not-has_room-clause-any_moment
-returns-then-not-has_room-clause-any_moment g c is_open files is =
+pub returns-then-not-has_room_in_run-clause-any_moment : goal.returns-then-not-has_room_in_run-clause-any_moment
+returns-then-not-has_room_in_run-clause-any_moment g c is_open files is =
     let d = g.D.Disk in
     run_idle d.seen d.may_leave d.moment d.left_since c.args.disk.now files c.args.self.now c.args.run.now [] (c.requires.running is_open files is) (g.met.D.Disk.only_now c.args.disk.now)
 
 pub returns-in-Ok-clause-at_end : goal.returns-in-Ok-clause-at_end
 returns-in-Ok-clause-at_end g c ps is records had =
     ap (λ (r : RunState). r.next) c.run.view_is ∙ run_end (g.D.Disk.seen c.args.disk.now) c.args.self.now c.args.run.now ps records is had
+
+pub returns-in-Ok-clause-others : goal.returns-in-Ok-clause-others
+returns-in-Ok-clause-others g c =
+    let d = g.D.Disk in
+    subst (λ (s : LogState). OthersStay s.file (d.seen c.args.disk.now) (d.seen c.lay.new.disk)) c.self.view_is c.in-Ok.ensures.others

@@ -2,14 +2,14 @@ use Rattle.std.proofs.Common.{length, ◌∷◌, [], sym, ◌∙◌, subst}
 use Rattle.std.proofs.lemmas.Option.{same_Some}
 use Rattle.mt_disk.specs.CrashModel.{Only}
 use Rattle.mt_disk.proofs.Moments.{begun}
-use Rattle.mt_log.specs.LogState.{LogState, Stands, next_place}
+use Rattle.mt_log.specs.LogState.{LogState, OthersStay, Stands, next_place}
 use Rattle.mt_log.specs.LogImage.{IsLogOf, IsBeforeOrAfter}
 use Rattle.mt_log.specs.Stage.{KeepsFront}
 use Rattle.mt_log.proofs.Added.{front_is_before}
 use Rattle.mt_log.proofs.Fronts.{front_same}
 use Rattle.mt_log.proofs.Told.{some_of}
 use Rattle.mt_log.proofs.Places.{end_of-holds}
-use Rattle.mt_log.proofs.Standing.{tells_log}
+use Rattle.mt_log.proofs.Standing.{stands_there, tells_log}
 use Rattle.mt_log.specs.contracts.log.Log.{the_view}
 use Rattle.mt_log.proofs.log.Log.append.Goals as goal
 
@@ -45,5 +45,10 @@ pub returns-in-Ok-clause-at_end : goal.returns-in-Ok-clause-at_end
 returns-in-Ok-clause-at_end g c ps is =
     let d = g.D.Disk in
     let stands = subst (λ (s : LogState). Stands d.seen d.may_leave c.args.disk.now s) (sym c.self.view_is) c.requires.stands in
-    let log = tells_log d.seen d.may_leave c.args.disk.now (the_view c.self.inside) stands c.if-self.false ps is in
+    let log = tells_log d.seen c.args.disk.now (the_view c.self.inside) (stands_there d.seen d.may_leave c.args.disk.now (the_view c.self.inside) stands) c.if-self.false ps is in
     end_of-holds _ _ _ ps log.holds
+
+pub returns-in-Ok-clause-others : goal.returns-in-Ok-clause-others
+returns-in-Ok-clause-others g c =
+    let d = g.D.Disk in
+    subst (λ (s : LogState). OthersStay s.file (d.seen c.args.disk.now) (d.seen c.add_record.new.disk)) c.self.view_is c.in-Ok.ensures.others

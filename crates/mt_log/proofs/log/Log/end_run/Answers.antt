@@ -1,13 +1,14 @@
 -- A run without a record is ended by nothing; another is finished.
-use Rattle.std.proofs.Common.{◌≡◌, [], ℕ, List, ap, subst, sym, ◌∙◌}
+use Rattle.std.proofs.Common.{◌≡◌, [], ℕ, List, refl, ap, subst, sym, ◌∙◌}
 use Rattle.std.proofs.lemmas.Option.{same_Some}
 use Rattle.std.specs.Result.{result_unwrap_or}
 use Rattle.mt_disk.specs.Files.{Files}
 use Rattle.mt_disk.specs.CrashModel.{Only}
 use Rattle.mt_log.specs.LogImage.{IsLogOf, payloads_of}
-use Rattle.mt_log.specs.LogState.{LogState}
+use Rattle.mt_log.specs.LogState.{LogState, OthersStay}
 use Rattle.mt_log.specs.RunState.{RunState}
 use Rattle.mt_log.specs.Stage.{KeepsFront, Laying}
+use Rattle.mt_log.proofs.Others.{others_same}
 use Rattle.mt_log.proofs.Running.{run_idle, told_more, told_none}
 use Rattle.mt_log.proofs.Told.{some_of}
 use Rattle.mt_log.proofs.log.Log.end_run.Goals as goal
@@ -70,3 +71,11 @@ returns-in-Ok-clause-any_moment g c is_open files is records laying =
 pub returns-in-Err-clause-any_moment : goal.returns-in-Err-clause-any_moment
 returns-in-Err-clause-any_moment g c is_open files is records laying =
     c.finish.ensures.any_moment files is c.self.inside.is_old records (inside files _ _ _ _ records c.self.view_is c.run.view_is laying)
+
+pub returns-then-next-self-clause-others : goal.returns-then-next-self-clause-others
+returns-then-next-self-clause-others g c = others_same c.args.self.now.file (g.D.Disk.seen c.args.disk.now) (g.D.Disk.seen c.args.disk.now) refl
+
+pub returns-in-Ok-clause-others : goal.returns-in-Ok-clause-others
+returns-in-Ok-clause-others g c =
+    let d = g.D.Disk in
+    subst (λ (s : LogState). OthersStay s.file (d.seen c.args.disk.now) (d.seen c.finish.new.disk)) c.self.view_is c.in-Ok.ensures.others

@@ -1,14 +1,11 @@
-use Rattle.std.proofs.Common.{◌≡◌, length, ap, arith, ◌∙◌}
+use Rattle.std.proofs.Common.{◌≡◌, sym, length, ap, arith, ◌∙◌}
 use Rattle.std.proofs.lemmas.List.{take_all, with_items_is}
 use Rattle.mt_log.specs.LogState.{told}
 use Rattle.mt_log.specs.Places.{payload_at}
-use Rattle.mt_log.proofs.Standing.{stands_on}
 use Rattle.mt_log.proofs.log.Log.read.Goals as goal
 
-pub read_part-requires-clause-stands : goal.read_part-requires-clause-stands
-read_part-requires-clause-stands g c =
-    let d = g.D.Disk in
-    stands_on d.seen d.may_leave d.moment d.left_since _ _ c.args.self.now c.payload_len.ensures.read c.requires.stands
+pub read_part-requires-clause-there : goal.read_part-requires-clause-there
+read_part-requires-clause-there g c is_open files is = c.requires.there is_open files (sym c.payload_len.ensures.read.seen_same ∙ is)
 
 pub returns-in-Ok-clause-payload : goal.returns-in-Ok-clause-payload
 returns-in-Ok-clause-payload g c ps is =

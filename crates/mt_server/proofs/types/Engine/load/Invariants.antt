@@ -4,7 +4,8 @@ use Rattle.mt_base.specs.Counts.{NeverFell}
 use Rattle.mt_disk.specs.CrashModel.{OnlyRead}
 use Rattle.mt_log.specs.LogState.{Stands}
 use Rattle.mt_server.specs.Opening.{IsLoading}
-use Rattle.mt_server.specs.Store.{History, most_commands}
+use Rattle.mt_server.specs.Store.{History}
+use Rattle.mt_types.specs.declared.limits.TheConstants.{MOST_COMMANDS}
 use Rattle.mt_server.proofs.types.Engine.load.Given as goal
 
 abbrev pub invariant-records : goal.invariant-records
@@ -13,7 +14,7 @@ invariant-records g l =
     record {
       so_far : (h : History) × IsLoading (d.seen l.disk) l.self l.place h;
       within : l.place ≤ l.gate;
-      few : l.self.state.count ≤ most_commands;
+      few : l.self.state.count ≤ MOST_COMMANDS;
       log : l.self.log ≡ l.fn.self.log;
       stands : Stands d.seen d.may_leave l.disk l.self.log;
       read : OnlyRead d.seen d.may_leave d.moment d.left_since l.fn.disk l.disk;

@@ -1,6 +1,0 @@
--- The copies so far are the front of the list.
-use Rattle.std.proofs.Common.{◌≡◌, take}
-use Rattle.mt_base.proofs.sequence.SequenceDuplicate.copy.Given as goal
-
-abbrev pub invariant-loop-item : goal.invariant-loop-item
-invariant-loop-item g l = l.items.items ≡ take l.item-index l.item-items

@@ -1,0 +1,13 @@
+-- Spaces and tabs.
+use Rattle.std.specs.Prelude.{ℕ, ◌-◌, Bool, ◌||◌, ◌==◌, List, length, take, drop}
+use Rattle.std.specs.List.{prefix_len, suffix_len}
+
+-- a space or a tab
+abbrev pub is_blank : ℕ → Bool
+is_blank b = b == 32 || b == 9
+
+-- without the blanks around it
+abbrev pub trimmed : List ℕ → List ℕ
+trimmed text =
+    let rest : List ℕ = drop (prefix_len is_blank text) text in
+    take (length rest - suffix_len is_blank rest) rest

@@ -1,5 +1,0 @@
-use Rattle.std.proofs.Common.{length}
-use Rattle.mt_codec.proofs.texts.+are_by_name.Given as goal
-
-abbrev pub decreases-are_by_name : goal.decreases-are_by_name
-decreases-are_by_name l = length l.fields.now

@@ -1,0 +1,80 @@
+-- The limits that the values of a state keep, so that each can be told and written.
+use Rattle.std.specs.Prelude.{ℕ, IsTrue, ⊤, List, Option, IfSome}
+use Rattle.std.specs.List.{AllByRecursion}
+use Rattle.mt_types.specs.Limits.{FitsMetadata, is_command_line, is_content_type, is_durability, is_job_name, is_line_text, is_moment}
+use Rattle.mt_types.specs.declared.command.Command.{Command}
+use Rattle.mt_types.specs.declared.command.Command.TheVariants.{Put, MakeDirectory, Link, Delete, NewJob, AddInputs, EndInput, Commit, Finish, Cancel, Close, NewUpload, PutPart, CommitUpload, AbortUpload}
+use Rattle.mt_types.specs.declared.document.InputLine.{InputLine}
+use Rattle.mt_types.specs.declared.document.InputLine.TheVariants.{Named, Other}
+use Rattle.mt_types.specs.declared.document.Phase.{Phase}
+use Rattle.mt_types.specs.declared.job.Job.{Job}
+use Rattle.mt_types.specs.declared.object.Entry.{Entry}
+use Rattle.mt_types.specs.declared.object.Entry.TheVariants as entry
+use Rattle.mt_types.specs.declared.object.Field.{Field}
+use Rattle.mt_types.specs.declared.object.Object.{Object}
+use Rattle.mt_types.specs.declared.upload.Upload.{Upload}
+use Rattle.mt_model.specs.State.{State}
+
+-- seconds up to the end of the year 9999
+abbrev pub IsMoment : ℕ → Type 0
+IsMoment moment = IsTrue (is_moment moment)
+
+-- what is said of an object beside its body
+pub record IsSaid (content_type : List ℕ) (durability : Option ℕ) (metadata : List Field) (moment : ℕ) : Type 0 where
+  pub content_type_is : IsTrue (is_content_type content_type)
+  pub durability_is : IfSome durability (λ n. IsTrue (is_durability n))
+  pub metadata_is : FitsMetadata metadata
+  pub moment_is : IsMoment moment
+
+-- the command lines of a phase
+pub record IsPhase (p : Phase) : Type 0 where
+  pub exec : IsTrue (is_command_line p.exec)
+  pub init : IfSome p.init (λ t. IsTrue (is_command_line t))
+
+-- a line that is no path
+abbrev pub IsLine : InputLine → Type 0
+IsLine (Named p) = ⊤
+IsLine (Other t) = IsTrue (is_line_text t)
+
+module _ {B : Type 0} where
+  -- what stands at a path
+  abbrev pub IsEntry : Entry B → Type 0
+  IsEntry (entry.Directory mtime) = IsMoment mtime
+  IsEntry (entry.Object o) = IsSaid o.content_type o.durability o.metadata o.mtime
+
+  -- a job: its moments and its texts
+  pub record IsJob (j : Job B) : Type 0 where
+    pub created : IsMoment j.created
+    pub done : IfSome j.done IsMoment
+    pub name : IsTrue (is_job_name j.document.name)
+    pub phases : AllByRecursion IsPhase j.document.phases
+    pub missing : AllByRecursion IsLine j.missing
+
+  -- an upload
+  pub record IsUpload (u : Upload B) : Type 0 where
+    pub content_type : IsTrue (is_content_type u.content_type)
+    pub moment : IsMoment u.moment
+
+  -- each value of a state
+  pub record KeepsLimits (s : State B) : Type 0 where
+    pub rows : AllByRecursion (λ r. IsEntry r.1) s.rows
+    pub jobs : AllByRecursion IsJob s.jobs
+    pub uploads : AllByRecursion IsUpload s.uploads
+
+  -- what a command on rows says
+  abbrev pub SaysWithin : Command B → Type 0
+  SaysWithin (Put path content_type body durability metadata moment) = IsSaid content_type durability metadata moment
+  SaysWithin (MakeDirectory path moment) = IsMoment moment
+  SaysWithin (Link path source moment) = IsMoment moment
+  SaysWithin (Delete path moment) = ⊤
+  SaysWithin (NewJob document moment) = ⊤
+  SaysWithin (AddInputs job lines moment) = ⊤
+  SaysWithin (EndInput job moment) = ⊤
+  SaysWithin (Commit job phase place fate moment) = ⊤
+  SaysWithin (Finish job moment) = ⊤
+  SaysWithin (Cancel job moment) = ⊤
+  SaysWithin (Close job cancelled archive moment) = ⊤
+  SaysWithin (NewUpload path content_type moment) = ⊤
+  SaysWithin (PutPart upload index body moment) = ⊤
+  SaysWithin (CommitUpload upload parts body moment) = ⊤
+  SaysWithin (AbortUpload upload moment) = ⊤

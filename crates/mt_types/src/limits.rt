@@ -1,0 +1,52 @@
+//! The limits that values keep.
+
+/// An account has at most so many commands, 2 ^ 50 - 1.
+pub const MOST_COMMANDS: u64 = 1_125_899_906_842_623;
+
+/// A command makes at most so many objects, so numbers of jobs and uploads are multiples of it.
+pub const NUMBERS_A_COMMAND: u64 = 4_096;
+
+/// A content type, in bytes.
+pub const LONGEST_CONTENT_TYPE: usize = 255;
+
+/// The durability that was asked for is at most this.
+pub const LARGEST_DURABILITY: u8 = 6;
+
+/// Pairs of metadata, as many as a message has fields.
+pub const MOST_METADATA: usize = 100;
+
+/// Names and values of metadata together, in bytes.
+pub const LARGEST_METADATA: usize = 4_096;
+
+/// The name of a job, in bytes.
+pub const LONGEST_NAME: usize = 16_777_216;
+
+/// Phases of a job.
+pub const MOST_PHASES: usize = 16;
+
+/// Reducers of a phase.
+pub const MOST_REDUCERS: u32 = 1_024;
+
+/// Assets of a phase.
+pub const MOST_ASSETS: usize = 64;
+
+/// A command line, in bytes.
+pub const LONGEST_COMMAND_LINE: usize = 65_536;
+
+/// Records of a task.
+pub const MOST_RECORDS: usize = 4_095;
+
+/// The front of standard error that is kept, in bytes.
+pub const LONGEST_STDERR: usize = 1_024;
+
+/// The last index of a part of an upload.
+pub const LAST_PART: u16 = 9_999;
+
+/// The body of a put, and the object of an upload, in bytes.
+pub const LARGEST_BODY: u64 = 1_073_741_824;
+
+/// The bytes of a body in one piece.
+pub const LARGEST_PIECE: usize = 65_536;
+
+/// The characters of a token besides letters and digits (RFC 9110, section 5.6.2).
+pub const TOKEN_MARKS: [u8; 15] = *b"!#$%&'*+-.^_`|~";
