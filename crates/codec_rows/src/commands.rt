@@ -69,7 +69,7 @@ fn put_again(alloc: Global, bytes: &[u8], out: &mut String) -> Result<(), Stop> 
     }
 }
 
-// The bytes of the command that was decoded, in a buffer of so many bytes.
+// The bytes of the command that was decoded.
 fn encoded(alloc: Global, bytes: &[u8]) -> Result<Vec<u8>, Stop> {
     match decode(alloc, bytes) {
         Ok(command) => {
@@ -83,7 +83,7 @@ fn encoded(alloc: Global, bytes: &[u8]) -> Result<Vec<u8>, Stop> {
 
 fn put_encoded(alloc: Global, bytes: &[u8], out: &mut String) -> Result<(), Stop> {
     let again = encoded(alloc, bytes)?;
-    write!(out, "\n    {} bytes: ", again.capacity())?;
+    write!(out, "\n    {} bytes: ", again.len())?;
     put_hex(out, &again)?;
     Ok(())
 }

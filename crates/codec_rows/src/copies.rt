@@ -11,16 +11,34 @@ use std::alloc::{AllocError, Global};
 /// Answers a row by the copy of the value that it makes.
 pub fn answer(alloc: Global, row: &Row, out: &mut String) -> Result<(), Stop> {
     match row.call() {
-        b"body" => body_at(row, 1)?.copy(alloc)?.show(out)?,
-        b"size" => write!(out, "{}", body_at(row, 1)?.size())?,
-        b"object" => object_of(alloc, row)?.copy(alloc)?.show(out)?,
-        b"directory" => directory_of(alloc, row)?.copy(alloc)?.show(out)?,
-        b"job" => job_of(alloc, row)?.copy(alloc)?.show(out)?,
-        b"upload" => upload_of(alloc, row)?.copy(alloc)?.show(out)?,
-        b"raw" => raw_of(alloc, row)?.copy(alloc)?.show(out)?,
-        b"reply" => reply_of(alloc, row)?.copy(alloc)?.show(out)?,
-        _ => return Err(Stop::NoSuchRow),
+        b"body" => put_copy(alloc, body_at(row, 1)?, out),
+        b"size" => {
+            write!(out, "{}", body_at(row, 1)?.size())?;
+            Ok(())
+        }
+        b"object" => put_copy(alloc, object_of(alloc, row)?, out),
+        b"directory" => put_copy(alloc, directory_of(alloc, row)?, out),
+        _ => answer_at_job(alloc, row, out),
     }
+}
+
+fn answer_at_job(alloc: Global, row: &Row, out: &mut String) -> Result<(), Stop> {
+    match row.call() {
+        b"job" => put_copy(alloc, job_of(alloc, row)?, out),
+        b"upload" => put_copy(alloc, upload_of(alloc, row)?, out),
+        b"raw" => put_copy(alloc, raw_of(alloc, row)?, out),
+        b"reply" => put_copy(alloc, reply_of(alloc, row)?, out),
+        _ => Err(Stop::NoSuchRow),
+    }
+}
+
+fn put_copy<T: Duplicate + Drop + Show>(
+    alloc: Global,
+    value: T,
+    out: &mut String,
+) -> Result<(), Stop> {
+    let copy = value.copy(alloc)?;
+    copy.show(out)?;
     Ok(())
 }
 
