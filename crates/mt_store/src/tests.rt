@@ -63,8 +63,8 @@ fn put(alloc: Global, tree: &mut Tree<u8>, text: &str, number: u64) -> Result<()
 /// Makes a directory, where it may be made.
 fn make_directory(alloc: Global, tree: &mut Tree<u8>, text: &str) -> Result<(), Fail> {
     let path = path(alloc, text)?;
-    if tree.may_make_dir(&path).is_ok() {
-        tree.make_dir(path, 0)?;
+    if tree.may_make_directory(&path).is_ok() {
+        tree.make_directory(path, 0)?;
     }
     Ok(())
 }

@@ -33,10 +33,10 @@ fn put(alloc: Global, tree: &mut Tree<u64>, text: &str) -> Result<bool, Fail> {
 /// Makes a directory where that is allowed.
 fn make(alloc: Global, tree: &mut Tree<u64>, text: &str) -> Result<bool, Fail> {
     let path = path(alloc, text)?;
-    if tree.may_make_dir(&path).is_err() {
+    if tree.may_make_directory(&path).is_err() {
         return Ok(false);
     }
-    tree.make_dir(path, 9)?;
+    tree.make_directory(path, 9)?;
     Ok(true)
 }
 
@@ -51,7 +51,7 @@ fn remove(alloc: Global, tree: &mut Tree<u64>, text: &str) -> Result<bool, Fail>
 }
 
 /// The names of a page, each behind a slash.
-fn names(alloc: Global, page: &Rows<u64>) -> Result<Bytes, Fail> {
+fn names(alloc: Global, page: &RowList<u64>) -> Result<Bytes, Fail> {
     let mut text = Vec::new(alloc);
     for row in page.as_slice() {
         text.push(b'/')?;
@@ -99,7 +99,7 @@ fn a_change_is_refused_by_the_first_cause(rt: HostRuntime) -> Result<(), Fail> {
     for (text, to_put, to_make, to_remove) in table {
         let path = path(rt.alloc(), text)?;
         assert_eq!(rt; tree.may_put(&path).err(), to_put, "put {text}");
-        assert_eq!(rt; tree.may_make_dir(&path).err(), to_make, "make {text}");
+        assert_eq!(rt; tree.may_make_directory(&path).err(), to_make, "make {text}");
         assert_eq!(rt; tree.may_remove(&path).err(), to_remove, "remove {text}");
     }
     Ok(())
