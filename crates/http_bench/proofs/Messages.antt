@@ -9,12 +9,12 @@ use Rattle.mt_http.specs.Message.{message_of}
 use Rattle.mt_http.specs.declared.message.Ending.TheVariants as ending
 use Rattle.mt_http.specs.declared.message.Head.{Head}
 use Rattle.mt_http.specs.declared.message.Message.{Message}
-use Rattle.http_bench.specs.Counting.{Stands, SoFar, IsWholeBody, counts_of}
+use Rattle.http_bench.specs.Counting.{AreMessages, SoFar, IsWholeBody, counts_of}
 use Rattle.http_bench.specs.declared.count.Counts.{Counts}
 
 -- one more message behind those that stand
 pub one_more : (bytes : List ℕ) (messages : List Message) (rest : List ℕ) (message : Message) (rest' : List ℕ)
-    → Stands bytes messages rest → PlaceAt rest (Whole message rest') → Stands bytes (messages ++ message ∷ []) rest'
+    → AreMessages bytes messages rest → PlaceAt rest (Whole message rest') → AreMessages bytes (messages ++ message ∷ []) rest'
 one_more bytes [] rest message rest' stand place = (rest', subst (λ r. PlaceAt r (Whole message rest')) (sym stand) place, refl)
 one_more bytes (m ∷ messages) rest message rest' stand place = (stand.0, stand.1, one_more stand.0 messages rest message rest' stand.2 place)
 

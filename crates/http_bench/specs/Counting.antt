@@ -9,9 +9,9 @@ use Rattle.mt_http.specs.declared.message.Message.{Message}
 use Rattle.http_bench.specs.declared.count.Counts.{Counts}
 
 -- these messages stand one behind another, and then comes the rest
-abbrev pub Stands : (bytes : List ℕ) → List Message → (rest : List ℕ) → Type 0
-Stands bytes [] rest = bytes ≡ rest
-Stands bytes (message ∷ messages) rest = (behind : List ℕ) × PlaceAt bytes (Whole message behind) × Stands behind messages rest
+abbrev pub AreMessages : (bytes : List ℕ) → List Message → (rest : List ℕ) → Type 0
+AreMessages bytes [] rest = bytes ≡ rest
+AreMessages bytes (message ∷ messages) rest = (behind : List ℕ) × PlaceAt bytes (Whole message behind) × AreMessages behind messages rest
 
 -- how many messages, fields and bytes of bodies these are
 abbrev pub counts_of : List Message → Counts
@@ -25,7 +25,7 @@ counts_of messages = record {
 pub record ComeTo (bytes : List ℕ) (counts : Counts) : Type 0 where
   pub messages : List Message
   pub rest : List ℕ
-  pub stand : Stands bytes messages rest
+  pub stand : AreMessages bytes messages rest
   pub ends : PlaceAt rest End
   pub counted : counts ≡ counts_of messages
 
@@ -33,7 +33,7 @@ pub record ComeTo (bytes : List ℕ) (counts : Counts) : Type 0 where
 pub record SoFar (bytes : List ℕ) (counts : Counts) (left : Option (List ℕ)) : Type 0 where
   pub messages : List Message
   pub rest : List ℕ
-  pub stand : Stands bytes messages rest
+  pub stand : AreMessages bytes messages rest
   pub behind : left ≡ Some rest
   pub counted : counts ≡ counts_of messages
 

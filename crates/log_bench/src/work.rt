@@ -1,5 +1,5 @@
 //! Adding records to a log one by one or in one run, and digesting payloads.
-ghost use Rattle.std.specs.Prelude.{◌≡◌, ◌<◌, ◌^◌, replicate, length, IfOk, OnOk};
+ghost use Rattle.std.specs.Prelude.{◌≡◌, ◌<◌, ◌^◌, false, replicate, length, IfOk, OnOk};
 ghost use Rattle.mt_log.specs.LogState.{Stands, told, with_payloads};
 ghost use Rattle.std.specs.List.{concat};
 ghost use Rattle.md5.specs.Md5.{md5};
@@ -47,6 +47,7 @@ pub(crate) fn add_run<D: Disk>(
     count: u64,
 ) -> Result<(), AppendError>
     requires stands { Stands D.seen D.may_leave disk.old log.old }
+    requires version { log.old.closed ≡ false → log.old.is_old ≡ false }
     requires payload { length payload.now < 2 ^ 32 }
     ensures added { OnOk result (told (D.seen disk.new) ≡ with_payloads (replicate count payload.now) (told (D.seen disk.old))) }
 {

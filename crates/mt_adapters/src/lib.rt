@@ -9,8 +9,6 @@
 mod counted;
 mod file_disk;
 mod system_clock;
-#[cfg(test)]
-mod tests;
 
 pub use counted::{Counted, StdSink, StdSource};
 pub use file_disk::FileDisk;

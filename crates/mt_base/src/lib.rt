@@ -20,6 +20,3 @@ pub use duplicate::{Duplicate, copy_all};
 pub use limits::{LAST_MOMENT, NUMBERS_END};
 pub use sequence::Sequence;
 pub use text::Text;
-
-#[cfg(test)]
-mod tests;

@@ -14,6 +14,3 @@ mod put;
 pub use cursor::{Cursor, Short};
 pub use decimals::read_decimal;
 pub use put::{put_bytes, put_decimal, put_u8, put_u16, put_u32, put_u64};
-
-#[cfg(test)]
-mod tests;

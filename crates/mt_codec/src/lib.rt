@@ -21,8 +21,3 @@ pub use decoding::decode;
 pub use encoding::encode;
 pub use error::DecodeError;
 pub use piece::is_piece;
-
-#[cfg(test)]
-mod tests;
-#[cfg(test)]
-mod vectors;

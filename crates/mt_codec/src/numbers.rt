@@ -7,7 +7,9 @@ ghost use Rattle.mt_codec.specs.Readers.{durability_at, flag_numbered, job_at, m
 
 use crate::error::DecodeError;
 use mt_bytes::Cursor;
-use mt_types::{LARGEST_DURABILITY, LAST_MOMENT, LAST_PART, MOST_REDUCERS, NUMBERS_A_COMMAND, NUMBERS_END};
+use mt_types::{
+    LARGEST_DURABILITY, LAST_MOMENT, LAST_PART, MOST_REDUCERS, NUMBERS_A_COMMAND, NUMBERS_END,
+};
 
 /// The next byte.
 pub fn byte(cursor: &mut Cursor) -> Result<u8, DecodeError>

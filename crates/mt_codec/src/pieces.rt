@@ -13,7 +13,11 @@ use crate::spelled::{Spelled, times};
 use crate::writing::{put_field, put_path, put_text};
 use mt_bytes::Cursor;
 use mt_path::{Area, LONGEST_PATH, is_component};
-use mt_types::{Body, Bytes, Field, Fields, LARGEST_METADATA, MOST_METADATA, Path, Sequence, Text, are_by_name, is_command_line, is_content_type, is_job_name, is_line_text, is_metadata_name, is_metadata_within, is_plain_text};
+use mt_types::{
+    Body, Bytes, Field, Fields, LARGEST_METADATA, MOST_METADATA, Path, Sequence, Text, are_by_name,
+    is_command_line, is_content_type, is_job_name, is_line_text, is_metadata_name,
+    is_metadata_within, is_plain_text,
+};
 use std::alloc::{AllocError, Global};
 use std::str;
 

@@ -16,7 +16,11 @@ use crate::writing::{
     put_body, put_command_line, put_init, put_long_text, put_path, put_place, put_reducer, put_text,
 };
 use mt_bytes::{Cursor, put_u8, put_u16, put_u32, put_u64};
-use mt_types::{Archive, Body, Bytes, Fate, InputLine, JobDocument, LONGEST_STDERR, Lines, MOST_ASSETS, MOST_PHASES, MOST_RECORDS, PartNumbers, Path, Paths, Phase, PhaseKind, Phases, TaskFailure, TaskRecord, TaskRecords, Text};
+use mt_types::{
+    Archive, Body, Bytes, Fate, InputLine, JobDocument, LONGEST_STDERR, Lines, MOST_ASSETS,
+    MOST_PHASES, MOST_RECORDS, PartNumbers, Path, Paths, Phase, PhaseKind, Phases, TaskFailure,
+    TaskRecord, TaskRecords, Text,
+};
 use std::alloc::{AllocError, Global};
 
 // How a phase cuts its feed.

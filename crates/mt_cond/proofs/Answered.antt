@@ -5,7 +5,7 @@ use Rattle.mt_cond.specs.declared.range.Range.{Range}
 use Rattle.mt_cond.specs.declared.range.Range.TheVariants.{Between, From, Last}
 use Rattle.mt_cond.specs.declared.range.Ranged.{Ranged}
 use Rattle.mt_cond.specs.declared.range.Ranged.TheVariants.{Whole, Part, CannotMeet}
-use Rattle.mt_cond.specs.Range.{Answers, IsIgnored, IsSelection, ranged}
+use Rattle.mt_cond.specs.Range.{IsRangeAnswer, IsIgnored, IsSelection, ranged}
 
 -- the first and the last selected places fix a selection
 Part-one : (range : Range) (length from to low high : ℕ) → IsSelection range length from to → IsSelection range length low high → Part from to ≡ Part low high
@@ -27,28 +27,28 @@ ignored_is_empty (From first) length i = absurd i
 ignored_is_empty (Last count) length i = i.1
 
 -- two answers are one
-Answers-one : (range : Range) (length : ℕ) (a b : Ranged) → Answers range length a → Answers range length b → a ≡ b
-Answers-one range length Whole Whole x y = refl
-Answers-one range length Whole (Part from to) x y =
+IsRangeAnswer-one : (range : Range) (length : ℕ) (a b : Ranged) → IsRangeAnswer range length a → IsRangeAnswer range length b → a ≡ b
+IsRangeAnswer-one range length Whole Whole x y = refl
+IsRangeAnswer-one range length Whole (Part from to) x y =
     let empty : length ≡ 0 = ignored_is_empty range length x in
     absurd (omega (arith, empty, y.some, y.within))
-Answers-one range length Whole CannotMeet x y = absurd (y.0 x)
-Answers-one range length (Part from to) Whole x y =
+IsRangeAnswer-one range length Whole CannotMeet x y = absurd (y.0 x)
+IsRangeAnswer-one range length (Part from to) Whole x y =
     let empty : length ≡ 0 = ignored_is_empty range length y in
     absurd (omega (arith, empty, x.some, x.within))
-Answers-one range length (Part from to) (Part low high) x y = Part-one range length from to low high x y
-Answers-one range length (Part from to) CannotMeet x y = absurd (y.1 from (x.inside from (omega arith) x.some))
-Answers-one range length CannotMeet Whole x y = absurd (x.0 y)
-Answers-one range length CannotMeet (Part from to) x y = absurd (x.1 from (y.inside from (omega arith) y.some))
-Answers-one range length CannotMeet CannotMeet x y = refl
+IsRangeAnswer-one range length (Part from to) (Part low high) x y = Part-one range length from to low high x y
+IsRangeAnswer-one range length (Part from to) CannotMeet x y = absurd (y.1 from (x.inside from (omega arith) x.some))
+IsRangeAnswer-one range length CannotMeet Whole x y = absurd (x.0 y)
+IsRangeAnswer-one range length CannotMeet (Part from to) x y = absurd (x.1 from (y.inside from (omega arith) y.some))
+IsRangeAnswer-one range length CannotMeet CannotMeet x y = refl
 
-pub Answers-ranged : (range : Range) (length : ℕ) → Answers range length (ranged range length)
-Answers-ranged (Between first last) length = elim (cases_Bool (nat_le first last && nat_lt first length)) [
+pub IsRangeAnswer-ranged : (range : Range) (length : ℕ) → IsRangeAnswer range length (ranged range length)
+IsRangeAnswer-ranged (Between first last) length = elim (cases_Bool (nat_le first last && nat_lt first length)) [
   | inl met ↦
       let parts = and_parts (nat_le first last) (nat_lt first length) met in
       let order : first ≤ last = leb-true first last parts.0 in
       let inner : first < length = ltb-true first length parts.1 in
-      subst (λ a. Answers (Between first last) length a)
+      subst (λ a. IsRangeAnswer (Between first last) length a)
       (sym (cond-true (nat_le first last && nat_lt first length) (Part first (min last (length - 1) + 1)) CannotMeet met))
       (record {
         some = omega arith;
@@ -57,7 +57,7 @@ Answers-ranged (Between first last) length = elim (cases_Bool (nat_le first last
         others = λ place chosen. (chosen.0, omega (arith, chosen.0, chosen.1, chosen.2));
       })
   | inr missed ↦
-      subst (λ a. Answers (Between first last) length a)
+      subst (λ a. IsRangeAnswer (Between first last) length a)
       (sym (cond-false (nat_le first last && nat_lt first length) (Part first (min last (length - 1) + 1)) CannotMeet missed)) (
         λ ignored. ignored,
         λ place chosen.
@@ -66,9 +66,9 @@ Answers-ranged (Between first last) length = elim (cases_Bool (nat_le first last
             false≢true (sym missed ∙ and_from (nat_le first last) (nat_lt first length) (le-leb first last order) (lt-ltb first length inner)),
       )
 ]
-Answers-ranged (From first) length = elim (cases_lt first length) [
+IsRangeAnswer-ranged (From first) length = elim (cases_lt first length) [
   | inl inner ↦
-      subst (λ a. Answers (From first) length a) (sym (cond-true (nat_lt first length) (Part first length) CannotMeet (lt-ltb first length inner)))
+      subst (λ a. IsRangeAnswer (From first) length a) (sym (cond-true (nat_lt first length) (Part first length) CannotMeet (lt-ltb first length inner)))
       (record {
         some = inner;
         within = omega arith;
@@ -76,17 +76,17 @@ Answers-ranged (From first) length = elim (cases_lt first length) [
         others = λ place chosen. chosen;
       })
   | inr past ↦
-      subst (λ a. Answers (From first) length a) (sym (cond-false (nat_lt first length) (Part first length) CannotMeet (le-ltb first length past)))
+      subst (λ a. IsRangeAnswer (From first) length a) (sym (cond-false (nat_lt first length) (Part first length) CannotMeet (le-ltb first length past)))
       (λ ignored. ignored, λ place chosen. omega (arith, past, chosen.0, chosen.1))
 ]
-Answers-ranged (Last count) length =
+IsRangeAnswer-ranged (Last count) length =
     let part : Ranged = if nat_lt 0 length then Part (length - count) length else Whole in
     elim (cases_lt 0 count) [
       | inl some ↦
-          subst (λ a. Answers (Last count) length a) (sym (cond-false (not (nat_lt 0 count)) CannotMeet part (ap not (lt-ltb 0 count some))))
+          subst (λ a. IsRangeAnswer (Last count) length a) (sym (cond-false (not (nat_lt 0 count)) CannotMeet part (ap not (lt-ltb 0 count some))))
           (elim (cases_lt 0 length) [
             | inl bytes ↦
-                subst (λ a. Answers (Last count) length a) (sym (cond-true (nat_lt 0 length) (Part (length - count) length) Whole (lt-ltb 0 length bytes)))
+                subst (λ a. IsRangeAnswer (Last count) length a) (sym (cond-true (nat_lt 0 length) (Part (length - count) length) Whole (lt-ltb 0 length bytes)))
                 (record {
                   some = omega arith;
                   within = omega arith;
@@ -94,13 +94,13 @@ Answers-ranged (Last count) length =
                   others = λ place chosen. (omega (arith, chosen.0), chosen.1);
                 })
             | inr empty ↦
-                subst (λ a. Answers (Last count) length a) (sym (cond-false (nat_lt 0 length) (Part (length - count) length) Whole (le-ltb 0 length empty)))
+                subst (λ a. IsRangeAnswer (Last count) length a) (sym (cond-false (nat_lt 0 length) (Part (length - count) length) Whole (le-ltb 0 length empty)))
                 (some, omega arith)
           ])
       | inr none ↦
-          subst (λ a. Answers (Last count) length a) (sym (cond-true (not (nat_lt 0 count)) CannotMeet part (ap not (le-ltb 0 count none))))
+          subst (λ a. IsRangeAnswer (Last count) length a) (sym (cond-true (not (nat_lt 0 count)) CannotMeet part (ap not (le-ltb 0 count none))))
           (λ ignored. omega (arith, none, ignored.0), λ place chosen. omega (arith, none, chosen.0, chosen.1))
     ]
 
-pub ranged-one : (range : Range) (length : ℕ) (answer : Ranged) → Answers range length answer → answer ≡ ranged range length
-ranged-one range length answer a = Answers-one range length answer (ranged range length) a (Answers-ranged range length)
+pub ranged-one : (range : Range) (length : ℕ) (answer : Ranged) → IsRangeAnswer range length answer → answer ≡ ranged range length
+ranged-one range length answer a = IsRangeAnswer-one range length answer (ranged range length) a (IsRangeAnswer-ranged range length)

@@ -17,7 +17,7 @@ use Rattle.mt_cond.proofs.Found.{option_map-Some}
 use Rattle.mt_cond.specs.declared.range.Range.{Range}
 use Rattle.mt_cond.specs.declared.range.Range.TheVariants.{Between, From, Last}
 use Rattle.mt_types.specs.Fields.{first_value, is_named}
-use Rattle.mt_cond.specs.Range.{AsksFor, Writes, in_order, is_hyphen, range_at, range_between, range_cut_at, range_in, range_text, range_written}
+use Rattle.mt_cond.specs.Range.{AsksFor, WritesRange, in_order, is_hyphen, range_at, range_between, range_cut_at, range_in, range_text, range_written}
 
 -- what has a number is a decimal
 is_decimal-number : (text : List ℕ) (n : ℕ) → decimal_number text ≡ Some n → is_decimal text ≡ true
@@ -76,7 +76,7 @@ range_between-first [] first one = absurd (nothing_is_no_number first one)
 range_between-first (a ∷ before) first one = ap (option_map From) one
 
 -- a value that writes a range is read as it
-read_from_Writes : (range : Range) (value : List ℕ) → Writes range value → range_written value ≡ Some range
+read_from_Writes : (range : Range) (value : List ℕ) → WritesRange range value → range_written value ≡ Some range
 read_from_Writes (Between first last) value w =
     ap range_written w.2 ∙ range_at-text w.0 w.1 (digits_of w.0 first w.3) ∙ range_between-both w.0 w.1 first last w.3 w.4 w.5
 read_from_Writes (From first) value w =
@@ -96,16 +96,16 @@ in_order-Some (Some first) (Some last) range e = elim (cases_Bool (nat_le first 
 ]
 
 -- what stands around a hyphen, read as a range, writes it
-Writes-from_between : (before behind : List ℕ) (range : Range) → range_between before behind ≡ Some range → Writes range (range_text before behind)
-Writes-from_between [] behind range e =
+WritesRange-from_between : (before behind : List ℕ) (range : Range) → range_between before behind ≡ Some range → WritesRange range (range_text before behind)
+WritesRange-from_between [] behind range e =
     let found = option_map-Some Last (decimal_number behind) range e in
-    subst (λ r. Writes r (range_text [] behind)) found.2 (behind, refl, found.1)
-Writes-from_between (a ∷ before) [] range e =
+    subst (λ r. WritesRange r (range_text [] behind)) found.2 (behind, refl, found.1)
+WritesRange-from_between (a ∷ before) [] range e =
     let found = option_map-Some From (decimal_number (a ∷ before)) range e in
-    subst (λ r. Writes r (range_text (a ∷ before) [])) found.2 (a ∷ before, refl, found.1)
-Writes-from_between (a ∷ before) (b ∷ behind) range e =
+    subst (λ r. WritesRange r (range_text (a ∷ before) [])) found.2 (a ∷ before, refl, found.1)
+WritesRange-from_between (a ∷ before) (b ∷ behind) range e =
     let found = in_order-Some (decimal_number (a ∷ before)) (decimal_number (b ∷ behind)) range e in
-    subst (λ r. Writes r (range_text (a ∷ before) (b ∷ behind))) found.5 (a ∷ before, b ∷ behind, refl, found.2, found.3, found.4)
+    subst (λ r. WritesRange r (range_text (a ∷ before) (b ∷ behind))) found.5 (a ∷ before, b ∷ behind, refl, found.2, found.3, found.4)
 
 -- the first hyphen cuts what is read
 cut_at : (ends : List ℕ) (place : Option ℕ) (range : Range) → position is_hyphen ends ≡ place → range_cut_at ends place ≡ Some range →
@@ -117,14 +117,14 @@ cut_at ends (Some i) range at e =
     (take i ends, drop (i + 1) ends, sym (take-append-drop i ends) ∙ ap (λ rest. take i ends ++ rest) here, e)
 
 -- a value that is read as a range writes it
-Writes-from_read : (range : Range) (value : List ℕ) → range_written value ≡ Some range → Writes range value
-Writes-from_read range value e = elim (cases_Bool (starts_with nat_eq value (codes "bytes="))) [
+WritesRange-from_read : (range : Range) (value : List ℕ) → range_written value ≡ Some range → WritesRange range value
+WritesRange-from_read range value e = elim (cases_Bool (starts_with nat_eq value (codes "bytes="))) [
   | inl begins ↦
       let read : range_at (drop 6 value) ≡ Some range = sym (cond-true (starts_with nat_eq value (codes "bytes=")) (range_at (drop 6 value)) None begins) ∙ e in
       let cut = cut_at (drop 6 value) (position is_hyphen (drop 6 value)) range refl read in
       let front : codes "bytes=" ≡ take 6 value = (bytes_eq-Decides (codes "bytes=") (take 6 value)).0 begins in
       let whole : range_text cut.0 cut.1 ≡ value = ap (λ rest. codes "bytes=" ++ rest) (sym cut.2) ∙ ap (λ f. f ++ drop 6 value) front ∙ take-append-drop 6 value in
-      subst (λ v. Writes range v) whole (Writes-from_between cut.0 cut.1 range cut.3)
+      subst (λ v. WritesRange range v) whole (WritesRange-from_between cut.0 cut.1 range cut.3)
   | inr other ↦ absurd (none-some range (sym (cond-false (starts_with nat_eq value (codes "bytes=")) (range_at (drop 6 value)) None other) ∙ e))
 ]
 
@@ -137,7 +137,7 @@ range_in-exact fields range =
       λ e. elim (cases_Bool barred) [
         | inl beside ↦ absurd (none-some range (sym (cond-true barred None read beside) ∙ e))
         | inr plain ↦ option_and_then_some range_written (first_value (codes "range") fields) range (sym (cond-false barred None read plain) ∙ e)
-            (λ value first written. record { plain = plain; value = value; first = first; written = Writes-from_read range value written })
+            (λ value first written. record { plain = plain; value = value; first = first; written = WritesRange-from_read range value written })
       ],
       λ asks. cond-false barred None read asks.plain ∙ ap (option_and_then range_written) asks.first ∙ read_from_Writes range asks.value asks.written,
     )

@@ -30,10 +30,10 @@ pub record IsSelection (range : Range) (length from to : ℕ) : Type 0 where
   pub others : (place : ℕ) → Selects range length place → (from ≤ place) × (place < to)
 
 -- what each answer says of the range
-abbrev pub Answers : Range → ℕ → Ranged → Type 0
-Answers range length Whole = IsIgnored range length
-Answers range length (Part from to) = IsSelection range length from to
-Answers range length CannotMeet = (¬ (IsIgnored range length)) × ((place : ℕ) → ¬ (Selects range length place))
+abbrev pub IsRangeAnswer : Range → ℕ → Ranged → Type 0
+IsRangeAnswer range length Whole = IsIgnored range length
+IsRangeAnswer range length (Part from to) = IsSelection range length from to
+IsRangeAnswer range length CannotMeet = (¬ (IsIgnored range length)) × ((place : ℕ) → ¬ (Selects range length place))
 
 -- the one answer
 abbrev pub ranged : Range → ℕ → Ranged
@@ -84,16 +84,16 @@ abbrev pub range_text : List ℕ → List ℕ → List ℕ
 range_text before behind = codes "bytes=" ++ (before ++ (codes "-" ++ behind))
 
 -- the value writes this range, by decimals of 1 to 19 digits
-abbrev pub Writes : Range → List ℕ → Type 0
-Writes (Between first last) value =
+abbrev pub WritesRange : Range → List ℕ → Type 0
+WritesRange (Between first last) value =
     (before : List ℕ) × (behind : List ℕ) × (value ≡ range_text before behind)
     × (decimal_number before ≡ Some first) × (decimal_number behind ≡ Some last) × (first ≤ last)
-Writes (From first) value = (before : List ℕ) × (value ≡ range_text before []) × (decimal_number before ≡ Some first)
-Writes (Last count) value = (behind : List ℕ) × (value ≡ range_text [] behind) × (decimal_number behind ≡ Some count)
+WritesRange (From first) value = (before : List ℕ) × (value ≡ range_text before []) × (decimal_number before ≡ Some first)
+WritesRange (Last count) value = (behind : List ℕ) × (value ≡ range_text [] behind) × (decimal_number behind ≡ Some count)
 
 -- there is no If-Range, and the first Range field writes this range
 pub record AsksFor (fields : List Field) (range : Range) : Type 0 where
   pub plain : list_any (is_named (codes "if-range")) fields ≡ false
   pub value : List ℕ
   pub first : first_value (codes "range") fields ≡ Some value
-  pub written : Writes range value
+  pub written : WritesRange range value

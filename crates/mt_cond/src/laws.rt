@@ -2,7 +2,7 @@
 ghost use Rattle.std.specs.Prelude.{◌≡◌, ◌↔◌, List, ℕ, Some};
 ghost use Rattle.mt_types.specs.declared.body.Body.{Body};
 ghost use Rattle.mt_cond.specs.Laws.{JudgedIsRead};
-ghost use Rattle.mt_cond.specs.Range.{Answers, ranged};
+ghost use Rattle.mt_cond.specs.Range.{IsRangeAnswer, ranged};
 ghost use Rattle.mt_cond.specs.Tags.{WritesTag, tag_of};
 ghost use Rattle.mt_cond.specs.declared.range.Range.{Range};
 ghost use Rattle.mt_cond.specs.declared.range.Ranged.{Ranged};
@@ -16,7 +16,7 @@ pub fn tag_spelling()
 
 /// A range of an object of a length has one answer.
 pub fn one_answer()
-    ensures { (range : Range) (length : ℕ) (answer : Ranged) → Answers range length answer → answer ≡ ranged range length }
+    ensures { (range : Range) (length : ℕ) (answer : Ranged) → IsRangeAnswer range length answer → answer ≡ ranged range length }
 {}
 
 /// Conditions say the same of an object whatever its body is: a reference, or the bytes that it stands for.

@@ -14,6 +14,3 @@ mod tags;
 pub use conditions::{Conditions, Judged, judge};
 pub use range::{Range, Ranged, range_of};
 pub use tags::{Tag, TagList};
-
-#[cfg(test)]
-mod tests;

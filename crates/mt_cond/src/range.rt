@@ -1,6 +1,6 @@
 //! Byte ranges over an object of known length.
 ghost use Rattle.std.specs.Prelude.{◌≡◌, ◌<◌, ◌↔◌, length, position, IfSome};
-ghost use Rattle.mt_cond.specs.Range.{Answers, AsksFor, range_between, range_in, range_written, ranged, is_hyphen};
+ghost use Rattle.mt_cond.specs.Range.{IsRangeAnswer, AsksFor, range_between, range_in, range_written, ranged, is_hyphen};
 
 use mt_bytes::read_decimal;
 use mt_types::{Fields, first_value, has_field};
@@ -99,7 +99,7 @@ fn range_between(first: &[u8], last: &[u8]) -> Option<Range>
 /// What a range of an object of `len` bytes gets. Takes no memory.
 pub fn range_of(range: &Range, len: u64) -> Ranged
     ensures value { result ≡ ranged range.now len }
-    ensures selected { Answers range.now len result }
+    ensures selected { IsRangeAnswer range.now len result }
 {
     match *range {
         Range::Between { first, last } if first <= last && first < len => Ranged::Part {

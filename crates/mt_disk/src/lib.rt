@@ -18,6 +18,3 @@ mod record;
 pub use crash::{CrashError, Pick};
 pub use disk::{Disk, DiskFault, FileNo};
 pub use memory::{MemDisk, Room};
-
-#[cfg(test)]
-mod tests;

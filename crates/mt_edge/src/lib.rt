@@ -24,8 +24,6 @@ mod sink;
 mod source;
 mod spawner;
 mod task;
-#[cfg(test)]
-mod tests;
 mod whole;
 
 pub use both::Both;

@@ -25,8 +25,10 @@ unfolding is_token_byte
 lower_token b token = grind (arith, nat_tests)
 
 lower_tokens : (bytes : List ℕ) → AllPass is_token_byte bytes → AllPass is_token_byte (str_to_ascii_lowercase bytes)
-lower_tokens [] all = All-nil _
-lower_tokens (b ∷ bytes) all = All-cons _ _ _ (lower_token b (All-head _ b bytes all)) (lower_tokens bytes (All-tail _ b bytes all))
+lower_tokens [] all = All-nil (λ x. is_token_byte x ≡ true)
+lower_tokens (b ∷ bytes) all =
+    let P : ℕ → Type 0 = λ x. is_token_byte x ≡ true in
+    All-cons P (to_ascii_lowercase b) (str_to_ascii_lowercase bytes) (lower_token b (All-head P b bytes all)) (lower_tokens bytes (All-tail P b bytes all))
 
 lower-lower : (bytes : List ℕ) → str_to_ascii_lowercase (str_to_ascii_lowercase bytes) ≡ str_to_ascii_lowercase bytes
 lower-lower [] = refl
@@ -40,11 +42,11 @@ length-lower (b ∷ bytes) = ap suc (length-lower bytes)
 
 skip-skip : (xs : List ℕ) → skip_ows (skip_ows xs) ≡ skip_ows xs
 skip-skip [] = refl
-skip-skip (b ∷ xs) = by (is_ows b) refl
+skip-skip (b ∷ xs) = by (is_ows b) refl (skip-skip xs)
   where
-    by : (t : Bool) → is_ows b ≡ t → skip_ows (skip_ows (b ∷ xs)) ≡ skip_ows (b ∷ xs)
-    by true is = rw is (skip-skip xs)
-    by false is = rw (is, is) refl
+    by : (t : Bool) → is_ows b ≡ t → skip_ows (skip_ows xs) ≡ skip_ows xs → skip_ows (skip_ows (b ∷ xs)) ≡ skip_ows (b ∷ xs)
+    by true is more = rw is more
+    by false is more = rw (is, is) refl
 
 shorter : (xs : List ℕ) → length (skip_ows xs) ≤ length xs
 shorter [] = omega arith

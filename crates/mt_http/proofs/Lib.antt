@@ -3,6 +3,7 @@ pub mod BodyReadings
 pub mod BodySteps
 pub mod ChunkLines
 pub mod CleanHeads
+pub mod ChunkParts
 pub mod ChunkedBodies
 pub mod EndsWith
 pub mod Finishes
@@ -12,6 +13,7 @@ pub mod LocalBodies
 pub mod MessageLaws
 pub mod Places
 pub mod ReadBody
+pub mod ReadChunks
 pub mod ReadHead
 pub mod ReadMessage
 pub mod ReplyLines

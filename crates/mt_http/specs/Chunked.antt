@@ -61,3 +61,7 @@ pub record HasChunks (limit : ℕ) (bytes body rest : List ℕ) : Type 0 where
 -- what the grammar calls a chunked body is read as one
 abbrev pub ChunksAreRead : Type 0
 ChunksAreRead = (limit : ℕ) (bytes body rest : List ℕ) → HasChunks limit bytes body rest → body_at Chunked limit bytes ≡ record { body = body; ending = Whole; rest = rest }
+
+-- and a body that is read whole as a chunked one is one of the grammar
+abbrev pub WholeIsChunks : Type 0
+WholeIsChunks = (limit : ℕ) (bytes body rest : List ℕ) → body_at Chunked limit bytes ≡ record { body = body; ending = Whole; rest = rest } → HasChunks limit bytes body rest

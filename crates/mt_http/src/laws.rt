@@ -3,7 +3,7 @@ ghost use Rattle.std.specs.Prelude.{◌≡◌, ◌↔◌, ℕ, List, [], Some};
 ghost use Rattle.httparse.specs.Grammar.{ChunkLine, ReadsChunkLine, chunk_size};
 ghost use Rattle.mt_http.specs.Body.{WholeBodyIsLocal};
 ghost use Rattle.mt_http.specs.Chunk.{chunk_line_size};
-ghost use Rattle.mt_http.specs.Chunked.{ChunksAreRead};
+ghost use Rattle.mt_http.specs.Chunked.{ChunksAreRead, WholeIsChunks};
 ghost use Rattle.mt_http.specs.Framing.{HeadsAreClean, PlaceIsOne};
 ghost use Rattle.mt_http.specs.Messages.{InterimIsOne, MessagesAreOne};
 
@@ -30,6 +30,12 @@ pub fn chunk_lines_are_of_the_grammar()
 /// What the grammar calls a chunked body (RFC 9112, section 7.1) is read as one.
 pub fn chunks_are_read()
     ensures { ChunksAreRead }
+{}
+
+/// What is read as a whole chunked body is one in the grammar: each chunk line has at most 256 bytes, and the trailer at
+/// most 65,536.
+pub fn whole_is_chunks()
+    ensures { WholeIsChunks }
 {}
 
 /// A head that is read has at most 100 fields. Each name is a token in lower case; each value has no control byte but

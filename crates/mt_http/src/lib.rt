@@ -30,6 +30,3 @@ pub use options::{closes, limit_of, wants_interim};
 pub use receive::{read_head, read_message};
 pub use reply::{ReplyEnd, write_head, write_interim, write_reply};
 pub use stream::BodyStream;
-
-#[cfg(test)]
-mod tests;

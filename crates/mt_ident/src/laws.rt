@@ -6,9 +6,9 @@ ghost use Rattle.mt_ident.specs.Dates.{date_of_day};
 ghost use Rattle.mt_ident.specs.Identifiers.{IsKind};
 
 use crate::dates::{http_date, read_http_date};
-use mt_base::LAST_MOMENT;
 use crate::digests::{md5_read, md5_text};
 use crate::identifiers::{uuid_number, uuid_text};
+use mt_base::LAST_MOMENT;
 
 /// An identifier's text is read as its number.
 pub fn identifier_again(kind: u8, number: u64) -> Option<u64>

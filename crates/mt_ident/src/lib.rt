@@ -16,6 +16,3 @@ pub use digests::{md5_of, md5_read, md5_text};
 pub use identifiers::{uuid_number, uuid_text};
 pub use md5::{Digest, Md5};
 pub use mt_base::LAST_MOMENT;
-
-#[cfg(test)]
-mod tests;

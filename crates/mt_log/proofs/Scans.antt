@@ -14,10 +14,10 @@ use Rattle.md5.specs.Md5.{md5}
 use Rattle.mt_disk.specs.declared.disk.FileNo.{FileNo}
 use Rattle.mt_disk.specs.Files.{Files, contents}
 use Rattle.mt_log.specs.LogImage.{Damaged, LogFault, NotALog, OldVersion, Short, begins_with, fault_in, head_of, is_old_log, length_in, log_by, log_in, log_magic, magic_of, old_magic, payload_in, payloads_from, record_of}
-use Rattle.mt_log.specs.Scan.{Answers, EndsWith, GateIs, HasRecord, IsHead, IsOpenGate, Walked, WindowState, fault_of}
+use Rattle.mt_log.specs.Scan.{OpensAs, EndsWith, GateIs, HasRecord, IsHead, IsOpenGate, Walked, WindowState, fault_of}
 use Rattle.mt_log.proofs.Appended.{fit-append}
 use Rattle.mt_log.proofs.Records.{length-head_of}
-use Rattle.mt_log.specs.declared.refusal.OpenError.{OpenError}
+use Rattle.mt_log.specs.declared.open_error.OpenError.{OpenError}
 use Rattle.mt_log.proofs.Walks.{ends_fault, ends_none, read_by}
 
 -- the parts of what is read
@@ -217,7 +217,7 @@ gate_is (b ∷ rest) front is some = by (cases_eq b 1)
         subst (λ t. GateIs t (b ∷ rest)) (sym test) (record { byte = b; tail = rest; is = refl; shut = other })
 
 -- the exit of a `?`
-pub answers_err : {T : Type 0} (r : Result T OpenError) (e : OpenError) (read : Result (List (List ℕ)) LogFault) → IsErrAnd r (λ x. x ≡ e) → ((fault : LogFault) → fault_of e ≡ Some fault → read ≡ Err fault) → Answers r read
+pub answers_err : {T : Type 0} (r : Result T OpenError) (e : OpenError) (read : Result (List (List ℕ)) LogFault) → IsErrAnd r (λ x. x ≡ e) → ((fault : LogFault) → fault_of e ≡ Some fault → read ≡ Err fault) → OpensAs r read
 answers_err (Ok x) e read is says = absurd is
 answers_err (Err x) e read is says = λ fault named. says fault (sym (ap fault_of is) ∙ named)
 

@@ -4,4 +4,5 @@ pub mod LogState
 pub mod Places
 pub mod RunState
 pub mod Scan
+pub mod Opening
 pub mod Stage

@@ -4,8 +4,8 @@ use Rattle.std.specs.Int.{w32, to_be_bytes}
 use Rattle.std.specs.List.{flat_map}
 use Rattle.mt_disk.specs.declared.disk.FileNo.{FileNo}
 use Rattle.mt_disk.specs.Files.{Files, contents}
-use Rattle.mt_log.specs.declared.refusal.OpenError.{OpenError}
-use Rattle.mt_log.specs.declared.refusal.OpenError.TheVariants as refusal
+use Rattle.mt_log.specs.declared.open_error.OpenError.{OpenError}
+use Rattle.mt_log.specs.declared.open_error.OpenError.TheVariants as refusal
 use Rattle.mt_log.specs.LogImage.{AllFit, Holds, LogFault, NotALog, OldVersion, Damaged, Short, magic_of, payloads_from, record_head, record_of}
 
 -- the fault of a log that a refusal names
@@ -18,9 +18,9 @@ fault_of refusal.Disk = None
 fault_of refusal.Memory = None
 
 -- an opening answers what reading gives: Ok only where the log can be read, and a refusal that names a fault only at that fault
-abbrev pub Answers : {T : Type 0} → Result T OpenError → Result (List (List ℕ)) LogFault → Type 0
-Answers (Ok log) read = IsOk read
-Answers (Err refused) read = (fault : LogFault) → fault_of refused ≡ Some fault → read ≡ Err fault
+abbrev pub OpensAs : {T : Type 0} → Result T OpenError → Result (List (List ℕ)) LogFault → Type 0
+OpensAs (Ok log) read = IsOk read
+OpensAs (Err refused) read = (fault : LogFault) → fault_of refused ≡ Some fault → read ≡ Err fault
 
 -- what is read of a file: its length, the place from which on nothing was taken yet, and the bytes there that are in memory
 pub record WindowState : Type 0 where

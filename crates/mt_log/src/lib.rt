@@ -17,9 +17,9 @@ mod lay;
 mod log;
 mod new_log;
 mod open;
+mod open_error;
 mod publish;
 mod read;
-mod refusal;
 mod run;
 mod scan;
 mod stage;
@@ -27,9 +27,6 @@ mod window;
 
 pub use append::AppendError;
 pub use log::Log;
+pub use open_error::OpenError;
 pub use read::ReadFault;
-pub use refusal::OpenError;
 pub use run::Run;
-
-#[cfg(test)]
-mod tests;

@@ -6,10 +6,10 @@ ghost use Rattle.mt_base.specs.Counts.{HasCause, Rose, NeverFell};
 ghost use Rattle.mt_disk.specs.Files.{contents};
 ghost use Rattle.mt_disk.specs.CrashModel.{OnlyRead};
 ghost use Rattle.mt_log.specs.LogImage.{LogFault, log_by, magic_of};
-ghost use Rattle.mt_log.specs.Scan.{EndsWith, GateIs, HasLog, HasRecord, IsHead, IsOpenGate, IsWindow, StopsAt, Walked, fault_of, rest_at, Answers};
+ghost use Rattle.mt_log.specs.Scan.{EndsWith, GateIs, HasLog, HasRecord, IsHead, IsOpenGate, IsWindow, StopsAt, Walked, fault_of, rest_at, OpensAs};
 
 use crate::log::{EMPTY_LEN, MAGIC_LEN, RECORD_HEAD};
-use crate::refusal::OpenError;
+use crate::open_error::OpenError;
 use crate::window::Window;
 use mt_disk::{Disk, DiskFault, FileNo};
 use std::alloc::Global;
@@ -176,7 +176,7 @@ pub(crate) fn scan<D: Disk>(
     takes_old: bool,
 ) -> Result<Found, OpenError>
     ensures found { IfOk result (λ found. ForSome (D.seen disk.old) (λ files. HasLog found.is_old (contents files file) found.gate)) }
-    ensures answer { ForSome (D.seen disk.old) (λ files. Answers result (log_by takes_old (contents files file))) }
+    ensures answer { ForSome (D.seen disk.old) (λ files. OpensAs result (log_by takes_old (contents files file))) }
     ensures version { takes_old ≡ false → IfOk result (λ found. found.is_old ≡ false) }
     ensures small { IfOk result (λ found. found.gate + 1 < 2 ^ 64) }
     ensures first { IfOk result (λ found. 8 ≤ found.gate) }

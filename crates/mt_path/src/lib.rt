@@ -23,6 +23,3 @@ pub use limits::{LONGEST_COMPONENT, LONGEST_LOGIN, LONGEST_PATH};
 pub use mt_base::{Bytes, Duplicate, Sequence, Text};
 pub use names::target_names;
 pub use path::Path;
-
-#[cfg(test)]
-mod tests;

@@ -6,7 +6,7 @@ use Rattle.mt_disk.specs.CrashModel.{Only}
 use Rattle.mt_log.specs.LogImage.{IsBeforeOrAfter, SameLog, log_size, payloads, payloads_of}
 use Rattle.mt_log.specs.LogState.{size_with, told, with_payload, with_record}
 use Rattle.mt_server.specs.Answer.{fits}
-use Rattle.mt_server.specs.EngineState.{Accepts, AllHave, AllHaveEither, EngineState, HasHistory, IsCurrent, Writes, has_room, told_images}
+use Rattle.mt_server.specs.EngineState.{Accepts, AllHave, AllHaveEither, EngineState, HasHistory, IsCurrent, WritesPayload, has_room, told_images}
 use Rattle.mt_server.specs.Store.{History, IsPut, State, first_state, payload_of, payloads_of_history, step}
 use Rattle.mt_types.specs.declared.limits.TheConstants.{MOST_COMMANDS}
 use Rattle.mt_server.specs.declared.accepted.Accepted.{Accepted}
@@ -70,7 +70,7 @@ accepted_or_not tells (Some files) engine h put may current limits left read c i
 -- what became of a command, by what became of its payload
 pub accepted_by_write : (tells : Bool) (seen : Option Files) (old mid : EngineState) (payload : List ℕ) (h : History) (put : Put) (faults : ℕ) (r : Accepted) (seen' : Option Files) (new : EngineState) (faults' : ℕ) (may : Files → Type 0)
     → IsCurrent tells seen old h → IsPut put → fits old.log.limit h put ≡ true → mid ≡ record old { state = step old.state put } → payload ≡ payload_of put
-    → Writes payload seen mid faults r seen' new faults' (told_images tells may) → ((files : Files) → seen ≡ Some files → mid.log.is_old ≡ false → IsOk (payloads files)) → Accepts tells h put seen old faults r seen' new faults' (told_images tells may)
+    → WritesPayload payload seen mid faults r seen' new faults' (told_images tells may) → ((files : Files) → seen ≡ Some files → mid.log.is_old ≡ false → IsOk (payloads files)) → Accepts tells h put seen old faults r seen' new faults' (told_images tells may)
 accepted_by_write tells seen old mid payload h put faults accepted.Added seen' new faults' may current limits room changed is wrote read = (
   room,
   accepted_added tells seen old h put seen' new current limits (wrote.0 ∙ ap (λ (p : List ℕ). with_payload p (told seen)) is)

@@ -5,8 +5,8 @@ use Rattle.std.specs.Option.{ForSome}
 use Rattle.mt_base.specs.Counts.{Rose}
 use Rattle.mt_disk.specs.Files.{Files}
 use Rattle.mt_disk.specs.CrashModel.{Only, OnlyRead}
-use Rattle.mt_log.specs.declared.refusal.OpenError.{OpenError}
-use Rattle.mt_log.specs.declared.refusal.OpenError.TheVariants as refusal
+use Rattle.mt_log.specs.declared.open_error.OpenError.{OpenError}
+use Rattle.mt_log.specs.declared.open_error.OpenError.TheVariants as refusal
 use Rattle.mt_log.specs.LogImage.{LogFault, NotALog, OldVersion, Damaged, Short, SameLog, chosen_by, payloads, payloads_in, payloads_of}
 use Rattle.mt_log.specs.LogState.{LogState, Settled, Stands, told}
 use Rattle.mt_log.specs.Scan.{fault_of}

@@ -52,12 +52,12 @@ abbrev pub AllHaveEither : (Files → Type 0) → History → History → Type 0
 AllHaveEither images h added = (c : Files) → images c → HasHistory c h ⊎ HasHistory c (h ++ added)
 
 -- What became of a payload that there was room for.
-abbrev pub Writes : List ℕ → (seen : Option Files) (old : EngineState) (faults : ℕ) → Accepted → (seen' : Option Files) (new : EngineState) (faults' : ℕ) (images : Files → Type 0) → Type 0
-Writes payload seen old faults accepted.Added seen' new faults' images = (told seen' ≡ with_payload payload (told seen)) × (new ≡ record old { log = with_record old.log (length payload) }) × NeverFell faults faults'
-Writes payload seen old faults accepted.DiskFault seen' new faults' images =
+abbrev pub WritesPayload : List ℕ → (seen : Option Files) (old : EngineState) (faults : ℕ) → Accepted → (seen' : Option Files) (new : EngineState) (faults' : ℕ) (images : Files → Type 0) → Type 0
+WritesPayload payload seen old faults accepted.Added seen' new faults' images = (told seen' ≡ with_payload payload (told seen)) × (new ≡ record old { log = with_record old.log (length payload) }) × NeverFell faults faults'
+WritesPayload payload seen old faults accepted.DiskFault seen' new faults' images =
     ((files : Files) → seen ≡ Some files → (c : Files) → images c → IsBeforeOrAfter files (payload ∷ []) c) × (new ≡ record old { log = record old.log { closed = true } }) × Rose faults faults'
-Writes payload seen old faults accepted.Full seen' new faults' images = ⊥
-Writes payload seen old faults accepted.Memory seen' new faults' images = ⊥
+WritesPayload payload seen old faults accepted.Full seen' new faults' images = ⊥
+WritesPayload payload seen old faults accepted.Memory seen' new faults' images = ⊥
 
 -- What became of a command over a history: the engine and what the disk tells, before and after, and the count of faults.
 abbrev pub Accepts : Bool → History → Put → (seen : Option Files) (old : EngineState) (faults : ℕ) → Accepted → (seen' : Option Files) (new : EngineState) (faults' : ℕ) (images : Files → Type 0) → Type 0

@@ -3,7 +3,7 @@ ghost use Rattle.std.specs.Prelude.{◌≡◌, ◌≢◌, ◌+◌, ◌<◌, ◌^
 ghost use Rattle.std.specs.Option.{ForSome};
 ghost use Rattle.mt_log.specs.LogImage.{payloads};
 ghost use Rattle.mt_log.specs.LogState.{HasRoom, Stands};
-ghost use Rattle.mt_server.specs.EngineState.{IsCurrent, Accepts, Writes, has_room, told_images};
+ghost use Rattle.mt_server.specs.EngineState.{IsCurrent, Accepts, WritesPayload, has_room, told_images};
 ghost use Rattle.std.specs.Ordering.{nat_cmp};
 ghost use Rattle.std.specs.Cmp.Lexicographic.{slice_cmp};
 ghost use Rattle.std.specs.BTreeMap.{insert_entry};
@@ -67,7 +67,7 @@ impl Engine {
         requires is_open { self.old.log.closed ≡ false }
         requires room { HasRoom self.old.log (length payload.now) }
         requires small { length payload.now < 2 ^ 32 }
-        ensures written { (tells : Bool) → Writes payload.now (D.seen disk.old) self.old (D.faults disk.old) result (D.seen disk.new) self.new (D.faults disk.new)
+        ensures written { (tells : Bool) → WritesPayload payload.now (D.seen disk.old) self.old (D.faults disk.old) result (D.seen disk.new) self.new (D.faults disk.new)
             (told_images tells (D.may_leave disk.new)) }
         ensures read { ForSome (D.seen disk.old) (λ files. self.old.log.is_old ≡ false → IsOk (payloads files)) }
         ensures stands { Stands D.seen D.may_leave disk.new self.new.log }

@@ -31,6 +31,3 @@ mod types;
 
 pub use settings::{Settings, SettingsError};
 pub use top::mantad;
-
-#[cfg(test)]
-mod tests;

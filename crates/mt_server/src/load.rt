@@ -14,12 +14,12 @@ ghost use Rattle.mt_server.specs.declared.put.Put.{Put};
 ghost use Rattle.mt_server.specs.declared.opening.Unreadable.TheVariants.{Foreign};
 
 use crate::decode::{DecodeError, decode};
-use mt_types::MOST_COMMANDS;
 use crate::opening::{OpenEnd, Unreadable, refused};
 use crate::put::Put;
 use crate::types::Engine;
 use mt_disk::Disk;
 use mt_log::{Log, ReadFault};
+use mt_types::MOST_COMMANDS;
 use std::alloc::Global;
 use std::collections::BTreeMap;
 

@@ -8,8 +8,8 @@ use crate::object::Object;
 use crate::put::Put;
 use mt_base::{Bytes, Duplicate, Sequence, Text};
 use mt_http::Field;
-use mt_types::NUMBERS_A_COMMAND;
 use mt_ident::{http_date, md5_of, md5_text, uuid_text};
+use mt_types::NUMBERS_A_COMMAND;
 use std::alloc::{AllocError, Global};
 
 /// A status code (RFC 9110, section 15).

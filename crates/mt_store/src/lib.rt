@@ -18,6 +18,3 @@ pub use mt_tree::Tree;
 pub use mt_types::{Object, Path, Refusal};
 pub use reads::{Found, read_object};
 pub use writes::{may_delete, may_link, may_put};
-
-#[cfg(test)]
-mod tests;

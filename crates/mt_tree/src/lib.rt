@@ -16,6 +16,3 @@ pub use mt_types::{
     Area, Bytes, Duplicate, Entry, Object, Path, Refusal, Row, RowList, Sequence, Text,
 };
 pub use tree::Tree;
-
-#[cfg(test)]
-mod tests;

@@ -47,6 +47,3 @@ pub use texts::{
     is_metadata_within, is_plain_text,
 };
 pub use upload::{PartNumbers, PartRow, PartRows, Stage, Upload, UploadList};
-
-#[cfg(test)]
-mod tests;

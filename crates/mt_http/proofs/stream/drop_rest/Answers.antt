@@ -7,8 +7,7 @@ use Rattle.mt_http.proofs.stream.drop_rest.Goals as goal
 pub rest-preserved : goal.rest-preserved
 rest-preserved g c =
     let kept = c.rest.invariant in
-    let streams = c.in-Took.ensures.streams in
-    (
+    let streams = c.in-Took.ensures.streams in (
       streams_keep _ _ _ c.read_framed.new.into c.read_framed.result _ _ _ c.read_framed.ensures.streams ∙ kept.0,
       g.met.S.Source.source_joined _ _ _ kept.1 c.in-Took.ensures.stays,
       omega (arith, kept.2, streams.3),

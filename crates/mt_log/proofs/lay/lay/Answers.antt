@@ -40,7 +40,7 @@ returns-in_ok-write_behind-2-clause-taken g c old records laying now is =
     (from.now ∙ ap (λ (l : List ℕ). overwritten (overwritten (contents from.files file) next l) (next + length l) p) c.open_head.ensures)
 
 pub returns-in_ok-write_behind-clause-others : goal.returns-in_ok-write_behind-clause-others
-returns-in_ok-write_behind-clause-others g c = others_changed c.args.file _ _ _ c.in_ok-write_behind.ensures.written
+returns-in_ok-write_behind-clause-others g c = others_changed c.args.file (λ (l : List ℕ). overwritten (overwritten l (c.args.gate + 1) c.head_bytes.result) (c.args.gate + 1 + length c.head_bytes.result) c.args.payload.now) _ _ c.in_ok-write_behind.ensures.written
 
 pub returns-in_ok-write_behind-2-clause-others : goal.returns-in_ok-write_behind-2-clause-others
-returns-in_ok-write_behind-2-clause-others g c = others_changed c.args.file _ _ _ c.in_ok-write_behind-2.ensures.written
+returns-in_ok-write_behind-2-clause-others g c = others_changed c.args.file (λ (l : List ℕ). overwritten (overwritten l c.args.next c.open_head.result) (c.args.next + length c.open_head.result) c.args.payload.now) _ _ c.in_ok-write_behind-2.ensures.written

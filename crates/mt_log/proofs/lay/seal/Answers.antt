@@ -1,5 +1,5 @@
 -- The closed gate is written behind the records.
-use Rattle.std.proofs.Common.{◌∷◌, [], arith}
+use Rattle.std.proofs.Common.{ℕ, List, ◌∷◌, [], arith}
 use Rattle.mt_disk.specs.Files.{overwritten}
 use Rattle.mt_disk.proofs.Moments.{begun, keeps, leaves_now}
 use Rattle.mt_log.specs.Stage.{KeepsFront}
@@ -32,4 +32,4 @@ returns-clause-laid g c old records laying = on_ok_weaker c.write_at.result (λ 
     sealed from.files file gate c.args.next old records (laying from.files from.was) now c.requires.order kept from.now) c.write_at.ensures.written
 
 pub returns-clause-others : goal.returns-clause-others
-returns-clause-others g c = on_ok_weaker c.write_at.result (λ written. others_changed c.args.file _ _ _ written) c.write_at.ensures.written
+returns-clause-others g c = on_ok_weaker c.write_at.result (λ written. others_changed c.args.file (λ (l : List ℕ). overwritten l c.args.next (0 ∷ [])) _ _ written) c.write_at.ensures.written

@@ -2,7 +2,7 @@
 use Rattle.std.proofs.Common.{◌≡◌, ℕ, ◌-◌, Bool, Some, Err, drop, ap, arith, subst, sym, ◌∙◌}
 use Rattle.mt_disk.specs.Files.{Files, contents}
 use Rattle.mt_disk.proofs.Readings.{reads_on}
-use Rattle.mt_log.specs.declared.refusal.OpenError.{OpenError}
+use Rattle.mt_log.specs.declared.open_error.OpenError.{OpenError}
 use Rattle.mt_log.specs.LogImage.{LogFault}
 use Rattle.mt_log.specs.Scan.{EndsWith, GateIs, HasLog, HasRecord, IsShut, StopsAt, Walked, WindowState, fault_of, rest_at}
 use Rattle.mt_log.proofs.Scans.{at_err, walked_on}

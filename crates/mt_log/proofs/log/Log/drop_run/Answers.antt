@@ -8,13 +8,13 @@ use Rattle.mt_log.specs.RunState.{RunState}
 use Rattle.mt_log.proofs.Running.{run_idle, run_synced}
 use Rattle.mt_log.proofs.log.Log.drop_run.Goals as goal
 
-pub returns-then-next-self-clause-stands : goal.returns-then-next-self-clause-stands
-returns-then-next-self-clause-stands g c is_open files is =
+pub returns-then-run-self-clause-stands : goal.returns-then-run-self-clause-stands
+returns-then-run-self-clause-stands g c is_open files is =
     let running = c.requires.running is_open files is in
-    (running.rest (sym (ap (λ (r : RunState). r.next) c.run.view_is) ∙ c.if-next-self.true ∙ ap (λ (s : LogState). s.gate) c.self.view_is), running.laying.log)
+    (running.rest (sym (ap (λ (r : RunState). r.next) c.run.view_is) ∙ c.if-run-self.true ∙ ap (λ (s : LogState). s.gate) c.self.view_is), running.laying.log)
 
-pub returns-then-next-self-clause-any_moment : goal.returns-then-next-self-clause-any_moment
-returns-then-next-self-clause-any_moment g c is_open files is =
+pub returns-then-run-self-clause-any_moment : goal.returns-then-run-self-clause-any_moment
+returns-then-run-self-clause-any_moment g c is_open files is =
     let d = g.D.Disk in
     run_idle d.seen d.may_leave d.moment d.left_since c.args.disk.now files c.args.self.now c.args.run [] (c.requires.running is_open files is) (g.met.D.Disk.only_now c.args.disk.now)
 

@@ -5,7 +5,7 @@ use Rattle.mt_log.specs.LogImage.{payloads_of}
 use Rattle.mt_log.proofs.Standing.{append_leaves, log_is}
 use Rattle.mt_log.proofs.Walks.{read_by}
 use Rattle.mt_log.specs.LogState.{Stands, with_record}
-use Rattle.mt_server.specs.EngineState.{EngineState, Writes, told_images}
+use Rattle.mt_server.specs.EngineState.{EngineState, WritesPayload, told_images}
 use Rattle.mt_server.specs.declared.accepted.Accepted.{Accepted}
 use Rattle.mt_server.proofs.types.Engine.write.Goals as goal
 use Rattle.mt_server.proofs.types.Engine.write.Goals.{in-Ok, in-Err-Disk}
@@ -25,7 +25,7 @@ returns-clause-written g c tells =
     let new : EngineState = record { log = c.append.new.self; state = record { count = c.self.inside.count; rows = c.self.inside.rows.entries } } in
     let images = told_images tells (d.may_leave c.append.new.disk) in
     let is_open = ap (λ (e : EngineState). e.log.closed) c.self.view_is ∙ c.requires.is_open in
-    let P : Accepted → Type 0 = λ r. Writes payload (d.seen c.args.disk.now) c.args.self.now (d.faults c.args.disk.now) r (d.seen c.append.new.disk) new (d.faults c.append.new.disk) images in
+    let P : Accepted → Type 0 = λ r. WritesPayload payload (d.seen c.args.disk.now) c.args.self.now (d.faults c.args.disk.now) r (d.seen c.append.new.disk) new (d.faults c.append.new.disk) images in
     elim c.match-append.branch [
       | in-Ok w ↦ subst P (sym w.result-is) (
         w.in-Ok.ensures.added,

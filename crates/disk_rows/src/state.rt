@@ -1,0 +1,165 @@
+//! The disk and the log that rows speak of.
+use crate::disks::{self, picks_of, put_bytes};
+use crate::logs::{self, put_refusal};
+use crate::stops::put_stop;
+use crate::untold::Untold;
+use mt_disk::{CrashError, FileNo, Room};
+use mt_log::Log;
+use mt_rows::{Row, Rows, Stop};
+use std::alloc::{AllocError, Global};
+
+/// The room of a disk where no row names one.
+const ROOM: Room = Room {
+    file: 256,
+    calls: 64,
+    written: 512,
+};
+
+/// A disk, the files that it was made of and the log that was opened over it; and the steps of a session that is
+/// stopped.
+#[derive(Drop)]
+pub struct Disks {
+    files: [Vec<u8>; 3],
+    room: Room,
+    disk: Option<Untold>,
+    log: Option<Log>,
+    steps: Vec<Row>,
+}
+
+impl Disks {
+    /// No disk yet.
+    pub fn new(alloc: Global) -> Disks {
+        Disks {
+            files: [Vec::new(alloc), Vec::new(alloc), Vec::new(alloc)],
+            room: ROOM,
+            disk: None,
+            log: None,
+            steps: Vec::new(alloc),
+        }
+    }
+
+    fn set_room(&mut self, row: &Row) -> Result<(), Stop> {
+        self.room = Room {
+            file: row.number(1)? as usize,
+            calls: row.number(2)? as usize,
+            written: row.number(3)? as usize,
+        };
+        Ok(())
+    }
+
+    // A new disk of three files, and no log yet. The numbers behind them are of calls that fail.
+    fn make(&mut self, alloc: Global, row: &Row) -> Result<(), Stop> {
+        self.files = [
+            Vec::from_slice(alloc, row.bytes(1)?)?,
+            Vec::from_slice(alloc, row.bytes(2)?)?,
+            Vec::from_slice(alloc, row.bytes(3)?)?,
+        ];
+        let failing = row.numbers(alloc, 4)?;
+        self.disk = Some(Untold::new(alloc, &self.files, self.room, &failing)?);
+        self.log = None;
+        Ok(())
+    }
+
+    // What a crash leaves is the disk from then on.
+    fn crash(&mut self, alloc: Global, row: &Row, out: &mut String) -> Result<(), Stop> {
+        let picks = picks_of(alloc, row, 1)?;
+        self.log = None;
+        let Some(disk) = self.disk.take() else {
+            return Err(Stop::NoSuchRow);
+        };
+        match disk.crash(&picks) {
+            Ok(left) => {
+                put_files(out, &left)?;
+                self.disk = Some(left);
+            }
+            Err(CrashError::NotAnImage) => out.push_str("NotAnImage")?,
+            Err(CrashError::Memory) => return Err(Stop::Memory),
+        }
+        Ok(())
+    }
+
+    fn open(&mut self, alloc: Global, row: &Row, out: &mut String) -> Result<(), Stop> {
+        let Some(disk) = &mut self.disk else {
+            return Err(Stop::NoSuchRow);
+        };
+        let opened = match row.call() {
+            b"open" => Log::open(alloc, disk, row.number(1)?),
+            _ => Log::open_any(alloc, disk, row.number(1)?),
+        };
+        match opened {
+            Ok(log) => {
+                write!(out, "Ok({})", log.len())?;
+                self.log = Some(log);
+                Ok(())
+            }
+            Err(error) => put_refusal(out, error),
+        }
+    }
+
+    // A session over a new disk of the same files, whose call of this number fails.
+    fn stop(&self, alloc: Global, row: &Row, out: &mut String) -> Result<(), Stop> {
+        let picks = picks_of(alloc, row, 2)?;
+        let disk = Untold::new(alloc, &self.files, self.room, &[row.number(1)?])?;
+        put_stop(alloc, disk, &self.steps, &picks, out)
+    }
+
+    fn add_step(&mut self, alloc: Global, line: &str) -> Result<(), Stop> {
+        match line.strip_prefix("step ") {
+            Some(step) => {
+                self.steps.push(Row::read(alloc, step.as_bytes())?)?;
+                Ok(())
+            }
+            None => Err(Stop::NoSuchRow),
+        }
+    }
+
+    // A row of a call of the disk, or else of the log.
+    fn call(&mut self, alloc: Global, row: &Row, out: &mut String) -> Result<(), Stop> {
+        let Some(disk) = &mut self.disk else {
+            return Err(Stop::NoSuchRow);
+        };
+        if disks::answer(alloc, disk, row, out)? {
+            return Ok(());
+        }
+        let Some(log) = &mut self.log else {
+            return Err(Stop::NoSuchRow);
+        };
+        if logs::answer(alloc, disk, log, row, out)? {
+            return Ok(());
+        }
+        Err(Stop::NoSuchRow)
+    }
+}
+
+fn put_files(out: &mut String, disk: &Untold) -> Result<(), AllocError> {
+    out.push_str("head ")?;
+    put_bytes(out, disk.file(FileNo::Head))?;
+    out.push_str(", one ")?;
+    put_bytes(out, disk.file(FileNo::One))?;
+    out.push_str(", two ")?;
+    put_bytes(out, disk.file(FileNo::Two))
+}
+
+impl Rows for Disks {
+    fn answer(
+        &mut self,
+        alloc: Global,
+        line: &str,
+        row: &Row,
+        out: &mut String,
+    ) -> Result<(), Stop> {
+        match row.call() {
+            b"room" => self.set_room(row),
+            b"disk" => self.make(alloc, row),
+            b"crash" => self.crash(alloc, row, out),
+            b"open" | b"open-any" => self.open(alloc, row, out),
+            b"steps" => {
+                self.steps.clear();
+                Ok(())
+            }
+            b"step" => self.add_step(alloc, line),
+            b"stop" => self.stop(alloc, row, out),
+            _ => self.call(alloc, row, out),
+        }
+    }
+}

@@ -1,0 +1,92 @@
+//! Sessions over a log in which a call of the disk fails, and what a crash leaves of them.
+use crate::disks::put_bytes;
+use crate::logs::{append, put_payloads, put_refusal, run};
+use crate::untold::Untold;
+use mt_disk::{CrashError, FileNo, Pick};
+use mt_log::Log;
+use mt_rows::{Row, Stop};
+use std::alloc::Global;
+
+/// How long a log may get in such a session.
+const LIMIT: u64 = 200;
+
+// The log of a disk, of which it prints the length, or why it isn't opened.
+fn opened(alloc: Global, disk: &mut Untold, out: &mut String) -> Result<Option<Log>, Stop> {
+    match Log::open(alloc, disk, LIMIT) {
+        Ok(log) => {
+            write!(out, "Ok({})", log.len())?;
+            Ok(Some(log))
+        }
+        Err(error) => {
+            put_refusal(out, error)?;
+            Ok(None)
+        }
+    }
+}
+
+// Each payload of a step that the log says it has, behind a blank.
+fn put_told(
+    alloc: Global,
+    disk: &mut Untold,
+    log: &mut Log,
+    step: &Row,
+    out: &mut String,
+) -> Result<(), Stop> {
+    match step.call() {
+        b"append" => {
+            if append(disk, log, step.bytes(1)?)?.is_ok() {
+                put_words(out, step)?;
+            }
+        }
+        b"run" => {
+            let ran = run(alloc, disk, log, step)?;
+            if ran.end.is_ok() {
+                put_words(out, step)?;
+            }
+        }
+        _ => return Err(Stop::NoSuchRow),
+    }
+    Ok(())
+}
+
+fn put_words(out: &mut String, row: &Row) -> Result<(), Stop> {
+    for place in 1..row.len() {
+        out.push(' ')?;
+        put_bytes(out, row.bytes(place)?)?;
+    }
+    Ok(())
+}
+
+/// A session over a disk: the log is opened and does each step, a crash leaves what the picks say, and the log is
+/// opened again. Prints both openings, the payloads that were told and those that were left, and Head.
+pub fn put_stop(
+    alloc: Global,
+    mut disk: Untold,
+    steps: &[Row],
+    picks: &[Pick],
+    out: &mut String,
+) -> Result<(), Stop> {
+    if let Some(mut log) = opened(alloc, &mut disk, out)? {
+        for step in steps {
+            put_told(alloc, &mut disk, &mut log, step, out)?;
+        }
+    }
+    match disk.crash(picks) {
+        Ok(mut left) => put_left(alloc, &mut left, out),
+        Err(CrashError::NotAnImage) => {
+            out.push_str("; no image")?;
+            Ok(())
+        }
+        Err(CrashError::Memory) => Err(Stop::Memory),
+    }
+}
+
+fn put_left(alloc: Global, left: &mut Untold, out: &mut String) -> Result<(), Stop> {
+    out.push_str("; left ")?;
+    if let Some(log) = opened(alloc, left, out)? {
+        put_payloads(alloc, left, &log, out)?;
+    }
+    out.push_str(", head ")?;
+    put_bytes(out, left.file(FileNo::Head))?;
+    Ok(())
+}

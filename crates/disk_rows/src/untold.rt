@@ -1,0 +1,130 @@
+//! A disk in memory that does not tell what it holds, so that rows may ask anything of it and of a log over it.
+ghost use Rattle.std.specs.Prelude.{◌≡◌, ◌≤◌, ◌+◌, IsTrue, length};
+ghost use Rattle.mt_base.specs.Counts.{HasCause};
+ghost use Rattle.mt_disk.specs.Files.{contents};
+ghost use Rattle.mt_disk.specs.Calls.{seen_after};
+
+use mt_disk::{CrashError, Disk, DiskFault, FileNo, MemDisk, Pick, Room};
+use std::alloc::{AllocError, Global};
+use std::marker::Model;
+
+/// A disk in memory. A call that doesn't fit into the file is a fault, and no call of that disk.
+#[derive(Drop)]
+pub struct Untold {
+    disk: MemDisk,
+    faults: u64,
+}
+
+impl Model for Untold {
+    ghost use Rattle.std.specs.Prelude.{ℕ};
+
+    ghost Value = { ℕ };
+
+    ghost view = { λ d. d.faults };
+}
+
+fn counted<T>(faults: &mut u64, done: Result<T, DiskFault>) -> Result<T, DiskFault>
+    ensures same { result ≡ done }
+    ensures cause { HasCause faults.old faults.new result }
+{
+    if done.is_err() {
+        *faults = faults.saturating_add(1);
+    }
+    done
+}
+
+// Whether a file has so many bytes from a place on.
+fn fits(disk: &MemDisk, file: FileNo, at: u64, len: u64) -> bool
+    ensures { IsTrue result → at + len ≤ length (contents (seen_after disk.now.base disk.now.past) file) }
+{
+    let have = disk.file(file).len() as u64;
+    at <= have && len <= have - at
+}
+
+impl Untold {
+    /// The disk of these files whose calls of these numbers fail.
+    pub fn new(
+        alloc: Global,
+        files: &[Vec<u8>; 3],
+        room: Room,
+        failing: &[u64],
+    ) -> Result<Untold, AllocError> {
+        let [head, one, two] = files;
+        let disk = MemDisk::new(alloc, head, one, two, room, failing)?;
+        Ok(Untold { disk, faults: 0 })
+    }
+
+    /// What a read of a file gives.
+    pub fn file(&self, file: FileNo) -> &[u8] {
+        self.disk.file(file)
+    }
+
+    /// How many calls were made.
+    pub fn calls(&self) -> u64 {
+        self.disk.calls()
+    }
+
+    /// What a crash leaves by these picks.
+    pub fn crash(self, picks: &[Pick]) -> Result<Untold, CrashError> {
+        let disk = self.disk.crash(picks)?;
+        Ok(Untold { disk, faults: 0 })
+    }
+}
+
+impl Disk for Untold {
+    ghost use Rattle.std.specs.Prelude.{◌≡◌, None};
+    ghost use Rattle.std.proofs.lemmas.Option.{none-some};
+
+    ghost seen = { λ d. None };
+
+    ghost may_leave = { λ d c. ⊥ };
+
+    ghost moment = { λ d. 0 };
+
+    ghost left_since = { λ d t c. ⊥ };
+
+    ghost faults = { λ d. d };
+
+    fn len(&mut self, file: FileNo) -> Result<u64, DiskFault> {
+        let done = self.disk.len(file);
+        counted(&mut self.faults, done)
+    }
+
+    fn read(&mut self, file: FileNo, at: u64, into: &mut [u8]) -> Result<(), DiskFault> {
+        let done = if fits(&self.disk, file, at, into.len() as u64) {
+            self.disk.read(file, at, into)
+        } else {
+            Err(DiskFault)
+        };
+        counted(&mut self.faults, done)
+    }
+
+    fn write_at(&mut self, file: FileNo, at: u64, piece: &[u8]) -> Result<(), DiskFault> {
+        let done = if fits(&self.disk, file, at, 0) {
+            self.disk.write_at(file, at, piece)
+        } else {
+            Err(DiskFault)
+        };
+        counted(&mut self.faults, done)
+    }
+
+    fn cut(&mut self, file: FileNo, to: u64) -> Result<(), DiskFault> {
+        let done = if fits(&self.disk, file, to, 0) {
+            self.disk.cut(file, to)
+        } else {
+            Err(DiskFault)
+        };
+        counted(&mut self.faults, done)
+    }
+
+    fn sync(&mut self, file: FileNo) -> Result<(), DiskFault> {
+        let done = self.disk.sync(file);
+        counted(&mut self.faults, done)
+    }
+
+    ghost counts_now = { λ d t c le left. left };
+
+    ghost only_now = { λ d c left. left };
+
+    ghost seen_is_left = { λ d files is. none-some files is };
+}

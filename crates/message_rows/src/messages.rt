@@ -1,0 +1,187 @@
+//! The rows, and what they set.
+use crate::reading::{put_asked, put_message, put_stream, source_of};
+use crate::replying::{put_head, put_interim, put_reply};
+use mt_edge::MemSink;
+use mt_rows::{Row, Rows, Stop, unescaped};
+use std::alloc::{AllocError, Global};
+
+/// The room of a sink at first, in bytes.
+const ROOM: usize = 10_000;
+
+/// Bytes are repeated at most so often.
+const MOST_TIMES: u64 = 100_000;
+
+/// What the next rows play on, and what the last one counted.
+#[derive(Drop)]
+pub struct Messages {
+    /// The bytes of a source.
+    bytes: Vec<u8>,
+    /// No read and no write takes more bytes than these; with none, each number from 1 to that of the bytes.
+    cuts: Vec<usize>,
+    /// The reads and the writes that fail.
+    fails: Vec<u64>,
+    /// The room of a sink.
+    room: usize,
+    /// The calls of the last source or sink.
+    calls: u64,
+    /// The faults of the last source or sink.
+    faults: u64,
+}
+
+impl Messages {
+    /// No bytes, and nothing fails.
+    pub fn new(alloc: Global) -> Messages {
+        Messages {
+            bytes: Vec::new(alloc),
+            cuts: Vec::new(alloc),
+            fails: Vec::new(alloc),
+            room: ROOM,
+            calls: 0,
+            faults: 0,
+        }
+    }
+
+    // Adds the bytes of a text so many times.
+    fn add(&mut self, alloc: Global, text: &[u8], times: u64) -> Result<(), Stop> {
+        let bytes = unescaped(alloc, text)?;
+        for _ in 0..times.min(MOST_TIMES) {
+            self.bytes.extend_from_slice(&bytes)?;
+        }
+        Ok(())
+    }
+
+    // The bytes of a text in place of those that were set. A text begins behind the first blank of its line.
+    fn set_bytes(&mut self, alloc: Global, line: &str) -> Result<(), Stop> {
+        self.bytes.clear();
+        match line.split_once(' ') {
+            Some((_, text)) => self.add(alloc, text.as_bytes(), 1),
+            None => Ok(()),
+        }
+    }
+
+    fn set_cuts(&mut self, alloc: Global, row: &Row) -> Result<(), Stop> {
+        let mut cuts = Vec::new(alloc);
+        for place in 1..row.len() {
+            cuts.push(size_at(row, place)?)?;
+        }
+        self.cuts = cuts;
+        Ok(())
+    }
+
+    // A row that sets what the next ones play on.
+    fn set(&mut self, alloc: Global, line: &str, row: &Row) -> Result<bool, Stop> {
+        match row.call() {
+            b"bytes" => self.set_bytes(alloc, line)?,
+            b"times" => {
+                let bytes = row.bytes(2)?;
+                for _ in 0..row.number(1)?.min(MOST_TIMES) {
+                    self.bytes.extend_from_slice(bytes)?;
+                }
+            }
+            b"cuts" => self.set_cuts(alloc, row)?,
+            b"fail" => self.fails = row.numbers(alloc, 1)?,
+            b"room" => self.room = size_at(row, 1)?,
+            _ => return Ok(false),
+        }
+        Ok(true)
+    }
+
+    // The numbers of bytes that a row is played for.
+    fn sizes(&self, alloc: Global) -> Result<Vec<usize>, AllocError> {
+        if !self.cuts.is_empty() {
+            return Vec::from_slice(alloc, &self.cuts);
+        }
+        let mut sizes = Vec::new(alloc);
+        for size in 1..=self.bytes.len().max(1) {
+            sizes.push(size)?;
+        }
+        Ok(sizes)
+    }
+
+    // Plays a row over a source.
+    fn read(&mut self, alloc: Global, row: &Row, most: usize) -> Result<String, Stop> {
+        let mut out = String::new(alloc);
+        let mut source = source_of(alloc, &self.bytes, most, &self.fails)?;
+        match row.call() {
+            b"message" => put_message(alloc, &mut source, &mut out)?,
+            b"asks" => put_asked(alloc, &mut source, &mut out)?,
+            b"stream" => put_stream(alloc, &mut source, row.number(1).ok(), &mut out)?,
+            _ => return Err(Stop::NoSuchRow),
+        }
+        self.calls = source.calls();
+        self.faults = source.faults();
+        Ok(out)
+    }
+
+    // Plays a row over a sink.
+    fn write(&mut self, alloc: Global, row: &Row, most: usize) -> Result<String, Stop> {
+        let mut out = String::new(alloc);
+        let sink = MemSink::new(alloc, self.room)?.at_most(most.max(1));
+        let mut sink = sink.failing(Vec::from_slice(alloc, &self.fails)?);
+        match row.call() {
+            b"reply" => put_reply(alloc, row, false, &mut sink, &mut out)?,
+            b"reply-to-head" => put_reply(alloc, row, true, &mut sink, &mut out)?,
+            b"head" => put_head(alloc, row, &mut sink, &mut out)?,
+            b"interim" => put_interim(&mut sink, &mut out)?,
+            _ => return Err(Stop::NoSuchRow),
+        }
+        self.calls = sink.calls();
+        self.faults = sink.faults();
+        Ok(out)
+    }
+
+    fn play(&mut self, alloc: Global, row: &Row, most: usize) -> Result<String, Stop> {
+        match row.call() {
+            b"message" | b"asks" | b"stream" => self.read(alloc, row, most),
+            _ => self.write(alloc, row, most),
+        }
+    }
+
+    // Plays a row for each number of bytes: the first answer, and each other one that is not the same.
+    fn play_each(&mut self, alloc: Global, row: &Row, out: &mut String) -> Result<(), Stop> {
+        let mut first: Option<String> = None;
+        for size in self.sizes(alloc)?.iter() {
+            let answer = self.play(alloc, row, *size)?;
+            match &first {
+                None => {
+                    out.push_str(&answer)?;
+                    first = Some(answer);
+                }
+                Some(wanted) if *wanted == answer => {}
+                Some(_) => write!(out, "\n    by {size}: {answer}")?,
+            }
+        }
+        Ok(())
+    }
+}
+
+fn size_at(row: &Row, place: usize) -> Result<usize, Stop> {
+    match row.text(place)?.parse::<usize>() {
+        Ok(size) => Ok(size),
+        Err(_) => Err(Stop::NoSuchRow),
+    }
+}
+
+impl Rows for Messages {
+    fn answer(
+        &mut self,
+        alloc: Global,
+        line: &str,
+        row: &Row,
+        out: &mut String,
+    ) -> Result<(), Stop> {
+        if self.set(alloc, line, row)? {
+            return Ok(());
+        }
+        match row.call() {
+            b"calls" => write!(out, "{}", self.calls)?,
+            b"faults" => write!(out, "{}", self.faults)?,
+            b"message" | b"asks" if row.len() > 1 => {
+                self.set_bytes(alloc, line)?;
+                self.play_each(alloc, row, out)?;
+            }
+            _ => self.play_each(alloc, row, out)?,
+        }
+        Ok(())
+    }
+}

@@ -1,0 +1,100 @@
+//! Messages, heads and bodies.
+use crate::show::{put_bytes, put_fields, put_quoted};
+use mt_edge::{MemSource, ReadStep, Source};
+use mt_http::{
+    BodyStream, Head, Message, MessageEnd, closes, limit_of, read_head, read_message, wants_interim,
+};
+use mt_rows::Stop;
+use std::alloc::{AllocError, Global};
+
+/// A body is read by at most so many reads.
+const MOST_READS: u32 = 30;
+
+/// A source of bytes, of which no read takes more than so many bytes, and the reads of these numbers fail.
+pub fn source_of(
+    alloc: Global,
+    bytes: &[u8],
+    most: usize,
+    fails: &[u64],
+) -> Result<MemSource, AllocError> {
+    let source = MemSource::new(alloc, Vec::from_slice(alloc, bytes)?).at_most(most.max(1));
+    Ok(source.failing(Vec::from_slice(alloc, fails)?))
+}
+
+/// Appends the message at the front of a source and what is left behind it, or why there is none.
+pub fn put_message(alloc: Global, source: &mut MemSource, out: &mut String) -> Result<(), Stop> {
+    match read_message(alloc, source) {
+        Ok(message) => {
+            show(&message, out)?;
+            out.push_str("; left ")?;
+            put_quoted(out, source.left())?;
+        }
+        Err(MessageEnd::Memory) => return Err(Stop::Memory),
+        Err(end) => write!(out, "{end:?}")?,
+    }
+    Ok(())
+}
+
+fn show(message: &Message, out: &mut String) -> Result<(), AllocError> {
+    out.push_str(message.method.as_str())?;
+    out.push(' ')?;
+    put_bytes(out, message.target.as_slice())?;
+    write!(out, " 1.{}", message.minor)?;
+    put_fields(out, message.fields.as_slice())?;
+    out.push_str("; body ")?;
+    put_quoted(out, message.body.as_slice())
+}
+
+// The head at the front of a source.
+fn head_of(alloc: Global, source: &mut MemSource) -> Result<Head, Stop> {
+    match read_head(alloc, source) {
+        Ok(head) => Ok(head),
+        Err(MessageEnd::Memory) => Err(Stop::Memory),
+        Err(_) => Err(Stop::NoSuchRow),
+    }
+}
+
+/// Appends what the head at the front of a source asks for.
+pub fn put_asked(alloc: Global, source: &mut MemSource, out: &mut String) -> Result<(), Stop> {
+    let head = head_of(alloc, source)?;
+    let framing = head.framing;
+    write!(out, "{framing:?}, limit {}", limit_of(&head))?;
+    write!(out, ", interim {}", wants_interim(&head))?;
+    let fields = head.fields.as_slice();
+    write!(out, ", closes {}", closes(head.minor, fields))?;
+    Ok(())
+}
+
+/// Appends the reads of the body at the front of a source, each with its ending, and what is left behind it. With no
+/// limit it is that of the head.
+pub fn put_stream(
+    alloc: Global,
+    source: &mut MemSource,
+    limit: Option<u64>,
+    out: &mut String,
+) -> Result<(), Stop> {
+    let head = head_of(alloc, source)?;
+    let limit = limit.unwrap_or(limit_of(&head));
+    let mut stream = BodyStream::new(source, &head, limit);
+    put_reads(&mut stream, out)?;
+    out.push_str("left ")?;
+    put_quoted(out, source.left())?;
+    Ok(())
+}
+
+fn put_reads(stream: &mut BodyStream<'_, MemSource>, out: &mut String) -> Result<(), AllocError> {
+    for _ in 0..MOST_READS {
+        let mut piece = [0; 64];
+        let step = stream.read(&mut piece);
+        match step {
+            ReadStep::Took(count) => put_quoted(out, &piece[..count.min(64)])?,
+            ReadStep::End => out.push_str("End")?,
+            ReadStep::Failed => out.push_str("Failed")?,
+        }
+        write!(out, " {:?}; ", stream.ending())?;
+        if matches!(step, ReadStep::End) {
+            return Ok(());
+        }
+    }
+    Ok(())
+}
