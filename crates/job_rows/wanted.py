@@ -218,8 +218,7 @@ def key_row(line, delimiter=None, numbers=()):
 def split_row(n, text, delimiter=None, numbers=()):
     words = [] if delimiter is None else [word(delimiter), *map(str, numbers)]
     parts = [b"".join(it for it in lines(text) if route(key(it, delimiter, numbers), n) == r) for r in range(n)]
-    answer = " | ".join(escaped(it) for it in parts)
-    row(" ".join(["split", str(n), word(text), *words]), answer[:-1] + "\\s" if answer.endswith(" ") else answer)
+    row(" ".join(["split", str(n), word(text), *words]), "".join(f"[{escaped(it)}]" for it in parts))
 
 
 def main():
@@ -233,7 +232,7 @@ def main():
         document('{"phases":[{"exec":"x","assets":[%s]}]}' % ",".join(['"/l/stor/a"'] * count))
     for count in (65536, 65537):
         text = '{"phases":[{"exec":"%s"}]}'
-        shown = text.replace("%s", f"\\*{count}.x")
+        shown = text.replace("%s", "x" * (count - 65536) + "\\*65536.x")
         row(f"document-bytes {shown}", judged((text % ("x" * count)).encode()) if count > 65536 else "job ; map " + "x" * count)
     print("\n# Lists in lists, below a phase in a list in an object: 127 deep in all, and deeper.")
     for count in (1, 124, 125, 200):

@@ -58,10 +58,9 @@ fn put_parts(
     }
     let parts = split(alloc, text, n, rule)?;
     for reducer in 0..n {
-        if reducer > 0 {
-            out.push_str(" | ")?;
-        }
+        out.push('[')?;
         put_part(text, parts.part(reducer), out)?;
+        out.push(']')?;
     }
     Ok(())
 }
