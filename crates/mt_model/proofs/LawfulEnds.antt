@@ -29,6 +29,8 @@ module _ {B : Type 0} where
     positions = law.positions;
     inputs = law.inputs;
     outputs = law.outputs;
+    document = law.document;
+    assets = law.assets;
     sound = sound_done j moment cancelled law.sound complete;
   }
 

@@ -95,6 +95,8 @@ module _ {B : Type 0} where
     positions = law.positions;
     inputs = law.inputs;
     outputs = law.outputs;
+    document = law.document;
+    assets = law.assets;
     sound = sound_ended j o law.sound;
   }
 
@@ -153,7 +155,7 @@ module _ {B : Type 0} where
 
   missing_case : (n : ℕ) (j : Job B) (lines : List InputLine) → LawfulJob n j → IsOpen j → TakesLines n j (record j { missing = lines })
   missing_case n j lines law o = record {
-    law = record { number = law.number; positions = law.positions; inputs = law.inputs; outputs = law.outputs; sound = sound_missing j lines o law.sound };
+    law = record { number = law.number; positions = law.positions; inputs = law.inputs; outputs = law.outputs; document = law.document; assets = law.assets; sound = sound_missing j lines o law.sound };
     opened = record { ended = o.ended; done = o.done };
     number = refl;
   }
@@ -189,6 +191,8 @@ module _ {B : Type 0} where
           positions = job.positions;
           inputs = All-push HasRoot j.inputs item job.inputs (root_good n rows p object law is);
           outputs = job.outputs;
+          document = job.document;
+          assets = job.assets;
           sound = sound_grown j item o job.sound;
         };
         opened = record { ended = o.ended; done = o.done };

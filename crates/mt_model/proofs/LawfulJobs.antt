@@ -35,6 +35,8 @@ module _ {B : Type 0} where
     positions = All-weaker (λ e. e.position < m) (λ e. e.position < n) (λ e b. omega arith) j.trace law.positions;
     inputs = law.inputs;
     outputs = law.outputs;
+    document = law.document;
+    assets = law.assets;
     sound = law.sound;
   }
 

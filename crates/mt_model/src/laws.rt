@@ -4,6 +4,7 @@ ghost use Rattle.std.specs.Prelude.{◌≡◌, ◌++◌, ℕ, List, Option};
 ghost use Rattle.mt_path.specs.AccountPath.{AccountPath, IsPath};
 ghost use Rattle.mt_types.specs.declared.command.Command.TheVariants.{Put, MakeDirectory, Link, Delete, NewJob, AddInputs, EndInput, Finish, Cancel, NewUpload, AbortUpload};
 ghost use Rattle.mt_types.specs.declared.body.Body.{Body};
+ghost use Rattle.mt_types.specs.WellMade.{IsDocument};
 ghost use Rattle.mt_types.specs.declared.document.InputLine.{InputLine};
 ghost use Rattle.mt_types.specs.declared.document.JobDocument.{JobDocument};
 ghost use Rattle.mt_types.specs.declared.object.Field.{Field};
@@ -69,7 +70,7 @@ pub fn commands_keep_lawful()
     ensures make_directory { (path : AccountPath) (moment : ℕ) → IsPath path → KeepsLawful (MakeDirectory path moment) }
     ensures link { (path source : AccountPath) (moment : ℕ) → IsPath path → KeepsLawful (Link path source moment) }
     ensures delete { (path : AccountPath) (moment : ℕ) → KeepsLawful (Delete path moment) }
-    ensures new_job { (document : JobDocument) (moment : ℕ) → KeepsLawful (NewJob document moment) }
+    ensures new_job { (document : JobDocument) (moment : ℕ) → IsDocument document → KeepsLawful (NewJob document moment) }
     ensures add_inputs { (job : ℕ) (lines : List InputLine) (moment : ℕ) → KeepsLawful (AddInputs job lines moment) }
     ensures end_input { (job moment : ℕ) → KeepsLawful (EndInput job moment) }
     ensures finish { (job moment : ℕ) → KeepsLawful (Finish job moment) }
