@@ -12,3 +12,4 @@ pub mod SizesRead
 pub mod Utf8
 pub mod Weaker
 pub mod Whole
+pub mod WellMade

@@ -5,6 +5,7 @@ ghost use Rattle.mt_types.specs.declared.command.Command.{Command};
 ghost use Rattle.mt_codec.specs.Spelling.{HasSpelling, IsWithinLimits, spelling, undigested};
 ghost use Rattle.mt_codec.specs.Pieces.{is_piece, size_bound, spelled_size};
 ghost use Rattle.mt_types.specs.Values.{command_with};
+ghost use Rattle.mt_types.specs.WellMade.{IsWellMade};
 
 use crate::decoding::decode;
 use crate::encoding::encode;
@@ -37,6 +38,11 @@ pub fn no_spelling_begins_another()
 /// What has a spelling is within its limits, so a command that was decoded may be encoded.
 pub fn spelled_within_limits()
     ensures { (c : Command Body) → HasSpelling c → IsWithinLimits c }
+{}
+
+/// What has a spelling is well made: its paths are paths, its document is one, and its records are few enough.
+pub fn spelled_is_well_made()
+    ensures { (c : Command Body) → HasSpelling c → IsWellMade c }
 {}
 
 /// How many bytes a command has at most, by its fields.

@@ -1,6 +1,6 @@
 -- A command is refused for the same cause where the sizes of the bodies that the state holds are kept: another reading,
 -- which fills up with zeros and cuts, keeps all sizes, and reads the same for those.
-use Rattle.std.proofs.Common.{◌≡◌, ℕ, ◌+◌, ◌≤◌, List, [], ◌∷◌, ◌++◌, length, take, refl, sym, ◌∙◌, ap, arith, length-append}
+use Rattle.std.proofs.Common.{◌≡◌, ℕ, List, [], ◌∷◌, ◌++◌, length, take, refl, sym, ◌∙◌, ap, arith, length-append}
 use Rattle.std.specs.Prelude.{replicate}
 use Rattle.std.specs.List.{AllByRecursion}
 use Rattle.std.proofs.lemmas.List.{length-replicate, length-take-le, take_at}
@@ -12,7 +12,7 @@ use Rattle.mt_types.specs.declared.job.Outcome.{Outcome}
 use Rattle.mt_types.specs.declared.job.Outcome.TheVariants.{Good, Bad}
 use Rattle.mt_types.specs.declared.object.Entry.{Entry}
 use Rattle.mt_types.specs.declared.object.Entry.TheVariants as entry
-use Rattle.mt_model.specs.Bodies.{OfEntry, OfItems, OfOutcome, OfState, state_with}
+use Rattle.mt_model.specs.Bodies.{OfEntry, OfOutcome, OfState, state_with}
 use Rattle.mt_model.specs.CommandStep.{allowed}
 use Rattle.mt_model.specs.Laws.{AllowedIsRead, KeepsSize, Reading}
 use Rattle.mt_model.specs.State.{State}

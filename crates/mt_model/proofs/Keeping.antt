@@ -1,5 +1,5 @@
 -- What holds of each entry of the rows goes on to hold after a command on rows.
-use Rattle.std.proofs.Common.{◌≡◌, ℕ, cond, Bool, true, false, List, [], ◌∷◌, Option, Some, None, refl, sym, ◌∙◌, ap, subst}
+use Rattle.std.proofs.Common.{◌≡◌, ℕ, cond, Bool, true, false, List, [], ◌∷◌, Option, Some, None, refl, sym, subst}
 use Rattle.std.proofs.lemmas.Option.{none-some, same_Some}
 use Rattle.std.specs.BTreeMap.{insert_entry}
 use Rattle.std.specs.List.{AllByRecursion}
@@ -19,7 +19,7 @@ use Rattle.mt_model.specs.Bodies.{OfCommand, OfEntry, OfState}
 use Rattle.mt_model.specs.CommandStep.{change, linked, put_object, step}
 use Rattle.mt_model.specs.Keeping.{IsEntry, KeepsLimits, SaysWithin}
 use Rattle.mt_model.specs.Names.{number_at}
-use Rattle.mt_model.specs.Rows.{Rows, at, is_path, object_at, object_in, with_row, without_row}
+use Rattle.mt_model.specs.Rows.{Rows, at, is_path, object_at, object_in}
 use Rattle.mt_model.specs.State.{State}
 
 abbrev IsOnRows : Kind → Type 0

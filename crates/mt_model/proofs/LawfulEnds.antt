@@ -14,7 +14,7 @@ holds_if true e = refl
 holds_if false e = cc
 
 module _ {B : Type 0} where
-  sound_done : (j : Job B) (moment : ℕ) (cancelled : Bool) → Sound j → (cancelled ≡ false → (j.ended ≡ true) × (all_complete j ≡ true)) → Sound (done_at moment cancelled j)
+  pub sound_done : (j : Job B) (moment : ℕ) (cancelled : Bool) → Sound j → (cancelled ≡ false → (j.ended ≡ true) × (all_complete j ≡ true)) → Sound (done_at moment cancelled j)
   sound_done j moment cancelled s complete = record {
     tasks = s.tasks;
     once = s.once;
@@ -29,6 +29,8 @@ module _ {B : Type 0} where
     positions = law.positions;
     inputs = law.inputs;
     outputs = law.outputs;
+    document = law.document;
+    assets = law.assets;
     sound = sound_done j moment cancelled law.sound complete;
   }
 

@@ -80,7 +80,7 @@ module _ {B : Type 0} where
   task_ended j k phase place (Some p) e =
       and_both _ _ (begin_ended j k phase p.kind (and_left _ _ e)) (and_right (may_begin (before j k) phase p.kind) _ e)
 
-  sound_ended : (j : Job B) → IsOpen j → Sound j → Sound (with_end j)
+  pub sound_ended : (j : Job B) → IsOpen j → Sound j → Sound (with_end j)
   sound_ended j o s = record {
     tasks = λ k e is. task_ended j k e.phase e.place (slice_get j.document.phases e.phase) (s.tasks k e is);
     once = s.once;
@@ -95,6 +95,8 @@ module _ {B : Type 0} where
     positions = law.positions;
     inputs = law.inputs;
     outputs = law.outputs;
+    document = law.document;
+    assets = law.assets;
     sound = sound_ended j o law.sound;
   }
 
@@ -153,7 +155,7 @@ module _ {B : Type 0} where
 
   missing_case : (n : ℕ) (j : Job B) (lines : List InputLine) → LawfulJob n j → IsOpen j → TakesLines n j (record j { missing = lines })
   missing_case n j lines law o = record {
-    law = record { number = law.number; positions = law.positions; inputs = law.inputs; outputs = law.outputs; sound = sound_missing j lines o law.sound };
+    law = record { number = law.number; positions = law.positions; inputs = law.inputs; outputs = law.outputs; document = law.document; assets = law.assets; sound = sound_missing j lines o law.sound };
     opened = record { ended = o.ended; done = o.done };
     number = refl;
   }
@@ -189,6 +191,8 @@ module _ {B : Type 0} where
           positions = job.positions;
           inputs = All-push HasRoot j.inputs item job.inputs (root_good n rows p object law is);
           outputs = job.outputs;
+          document = job.document;
+          assets = job.assets;
           sound = sound_grown j item o job.sound;
         };
         opened = record { ended = o.ended; done = o.done };
@@ -198,6 +202,21 @@ module _ {B : Type 0} where
   line_case : (n : ℕ) (rows : Rows B) → LawfulRows n rows → (j : Job B) → LawfulJob n j → IsOpen j → (line : InputLine) → TakesLines n j (with_line rows j line)
   line_case n rows law j job o (Named p) = named_case n rows law p j job o (object_at rows p) refl
   line_case n rows law j job o (Other text) = missing_case n j (j.missing ++ Other text ∷ []) job o
+
+  named_sound : (p : AccountPath) (j : Job B) → IsOpen j → Sound j → (o : Option (Object B)) → IsOpen (with_named p j o) × Sound (with_named p j o)
+  named_sound p j o s None = (record { ended = o.ended; done = o.done }, sound_missing j (j.missing ++ Named p ∷ []) o s)
+  named_sound p j o s (Some object) = (record { ended = o.ended; done = o.done }, sound_grown j (record { name = p; root = root_of_input p; body = object.body; reducer = None }) o s)
+
+  line_sound : (rows : Rows B) (j : Job B) → IsOpen j → Sound j → (line : InputLine) → IsOpen (with_line rows j line) × Sound (with_line rows j line)
+  line_sound rows j o s (Named p) = named_sound p j o s (object_at rows p)
+  line_sound rows j o s (Other text) = (record { ended = o.ended; done = o.done }, sound_missing j (j.missing ++ Other text ∷ []) o s)
+
+  -- a job that takes lines stays sound, whatever stands at their paths
+  pub lines_sound : (rows : Rows B) (lines : List InputLine) (j : Job B) → IsOpen j → Sound j → Sound (with_lines rows lines j)
+  lines_sound rows [] j o s = s
+  lines_sound rows (line ∷ lines) j o s =
+      let first = line_sound rows j o s line in
+      lines_sound rows lines (with_line rows j line) first.0 first.1
 
   pub lines_good : (n : ℕ) (rows : Rows B) → LawfulRows n rows → (lines : List InputLine) (j : Job B) → LawfulJob n j → IsOpen j → TakesLines n j (with_lines rows lines j)
   lines_good n rows law [] j job o = record { law = job; opened = o; number = refl }

@@ -35,6 +35,8 @@ module _ {B : Type 0} where
     positions = All-weaker (λ e. e.position < m) (λ e. e.position < n) (λ e b. omega arith) j.trace law.positions;
     inputs = law.inputs;
     outputs = law.outputs;
+    document = law.document;
+    assets = law.assets;
     sound = law.sound;
   }
 
@@ -79,7 +81,7 @@ module _ {B : Type 0} where
     done_case true j some = keeps.done j some
     done_case false j some = some
 
-    same_numbers : (jobs : List (Job B)) → map (λ j. j.number) (with_job jobs number c) ≡ map (λ j. j.number) jobs
+    pub same_numbers : (jobs : List (Job B)) → map (λ j. j.number) (with_job jobs number c) ≡ map (λ j. j.number) jobs
     same_numbers jobs =
         map-map (λ j. j.number) changed jobs
         ∙ ap (λ h. map h jobs) (same_function (λ j. (changed j).number) (λ j. j.number) (λ j. number_case (j.number == number) j))

@@ -1,10 +1,10 @@
 -- A state with one more job stays lawful.
-use Rattle.std.proofs.Common.{◌≡◌, ℕ, ◌+◌, ◌^◌, ◌<◌, Bool, true, false, cond, not, ◌&&◌, ◌||◌, List, [], ◌∷◌, ◌++◌, length, map, Option, Some, None, refl, sym, ap, subst, ◌∙◌, arith, true≢false, codes, bytes_eq}
+use Rattle.std.proofs.Common.{◌≡◌, ℕ, ◌+◌, ◌^◌, ◌<◌, Bool, true, false, cond, not, ◌&&◌, ◌||◌, List, [], ◌∷◌, ◌++◌, length, map, Option, Some, None, refl, sym, ap, subst, ◌∙◌, arith, true≢false, codes, bytes_eq, suc}
 use Rattle.std.specs.Prelude.{All, is_some}
 use Rattle.std.specs.Cmp.{nat_cmp_is}
-use Rattle.std.specs.List.{AllByRecursion, find, list_all}
+use Rattle.std.specs.List.{AllByRecursion, cons_option, filter_map, find, list_all, list_any}
 use Rattle.std.specs.List.Sorted.{IsStrictlySortedBy}
-use Rattle.std.specs.Option.{unwrap_or}
+use Rattle.std.specs.Option.{option_map, unwrap_or}
 use Rattle.std.specs.Ordering.{nat_cmp}
 use Rattle.std.specs.declared.cmp.Ordering.TheVariants.{Less}
 use Rattle.std.proofs.lemmas.List.Elements.{All-nil, All-cons, All-head, All-tail, All-push, All-weaker}
@@ -13,17 +13,20 @@ use Rattle.mt_ident.specs.Identifiers.{identifier_number, identifier_text}
 use Rattle.mt_ident.proofs.IdentifierTexts.{identifier_number-written}
 use Rattle.mt_path.specs.AccountPath.{AccountPath}
 use Rattle.mt_path.specs.declared.area.Area.TheVariants.{Jobs}
+use Rattle.mt_types.specs.WellMade.{IsDocument}
 use Rattle.mt_types.specs.declared.document.JobDocument.{JobDocument}
+use Rattle.mt_types.specs.declared.document.Phase.{Phase}
 use Rattle.mt_types.specs.declared.job.Job.{Job}
 use Rattle.mt_types.specs.declared.object.Entry.{Entry}
 use Rattle.mt_types.specs.declared.object.Entry.TheVariants as entry
 use Rattle.mt_types.specs.declared.object.Object.{Object}
-use Rattle.mt_model.specs.JobSteps.{archive_names, new_job, with_folders}
+use Rattle.mt_model.specs.JobSteps.{archive_names, bodies_of, lacks_asset, new_job, with_folders}
 use Rattle.mt_model.specs.Lawful.{HasFolders, HasRoot, IsBelow, LawfulJob, LawfulJobs, LawfulRows, fits_below, fits_in_folder, job_named}
 use Rattle.mt_model.specs.Feed.{items_of}
 use Rattle.mt_types.specs.declared.limits.TheConstants.{MOST_COMMANDS}
 use Rattle.mt_model.specs.Names.{in_job_folder, job_folder, job_name, job_stor, number_at}
-use Rattle.mt_model.specs.Rows.{Rows, IsTree, at, is_path, is_directory, object_in, with_row}
+use Rattle.mt_model.specs.Rows.{Rows, IsTree, at, is_path, is_directory, object_at, object_in, with_row}
+use Rattle.mt_model.specs.Resolve.{is_object_at}
 use Rattle.mt_model.specs.Sound.{Sound}
 use Rattle.mt_model.proofs.LawfulJobs.{LawfulJob-later, in_jobs}
 use Rattle.mt_model.proofs.LawfulRows.{LawfulRows-with_row}
@@ -77,6 +80,30 @@ pub all_numbers : {X : Type 0} (f : X → ℕ) (y : ℕ) (xs : List X) → All (
 all_numbers f y [] a = All-nil (λ z. z < y)
 all_numbers f y (x ∷ xs) a = All-cons (λ z. z < y) (f x) (map f xs) (All-head (λ x. f x < y) x xs a) (all_numbers f y xs (All-tail (λ x. f x < y) x xs a))
 
+-- ---- assets
+
+or_none : (a b : Bool) → (a || b) ≡ false → (a ≡ false) × (b ≡ false)
+or_none true b e = cc
+or_none false b e = (refl, e)
+
+module _ {B : Type 0} (rows : Rows B) where
+  asset_case : (o : Option (Object B)) → not (is_some o) ≡ false → (xs : List B) (n : ℕ) → length xs ≡ n → length (cons_option (option_map (λ x. x.body) o) xs) ≡ suc n
+  asset_case None e xs n same = cc
+  asset_case (Some x) e xs n same = ap suc same
+
+  bodies_here : (names : List AccountPath) → list_any (λ name. not (is_object_at rows name)) names ≡ false → length (filter_map (λ name. option_map (λ x. x.body) (object_at rows name)) names) ≡ length names
+  bodies_here [] e = refl
+  bodies_here (name ∷ names) e =
+      let both = or_none _ _ e in
+      asset_case (object_at rows name) both.0 (filter_map (λ q. option_map (λ x. x.body) (object_at rows q)) names) (length names) (bodies_here names both.1)
+
+  -- where no asset is missing each has a body
+  all_assets : (ps : List Phase) → list_any (lacks_asset rows) ps ≡ false → map length (map (bodies_of rows) ps) ≡ map (λ p. length p.assets) ps
+  all_assets [] e = refl
+  all_assets (p ∷ ps) e =
+      let both = or_none _ _ e in
+      ap (λ n. n ∷ map length (map (bodies_of rows) ps)) (bodies_here p.assets both.0) ∙ ap (λ more. length p.assets ∷ more) (all_assets ps both.1)
+
 -- ---- names of jobs
 
 -- a job's name tells its number
@@ -106,7 +133,7 @@ pub sorted_nil : IsStrictlySortedBy nat_cmp []
 unfolding IsStrictlySortedBy
 sorted_nil = tt
 
-module _ {B : Type 0} (count : ℕ) (rows : Rows B) (jobs : List (Job B)) (law : LawfulRows count rows) (lawful : LawfulJobs count rows jobs) (room : count < MOST_COMMANDS) (document : JobDocument) (moment : ℕ) where
+module _ {B : Type 0} (count : ℕ) (rows : Rows B) (jobs : List (Job B)) (law : LawfulRows count rows) (lawful : LawfulJobs count rows jobs) (room : count < MOST_COMMANDS) (document : JobDocument) (moment : ℕ) (is_document : IsDocument document) (none_lacks : list_any (lacks_asset rows) document.phases ≡ false) where
   abbrev n : ℕ
   n = number_at count 0
 
@@ -297,6 +324,8 @@ module _ {B : Type 0} (count : ℕ) (rows : Rows B) (jobs : List (Job B)) (law :
     positions = All-nil (λ e. e.position < count + 1);
     inputs = All-nil HasRoot;
     outputs = All-nil (λ e. All HasRoot (items_of e.outcome));
+    document = is_document;
+    assets = all_assets rows document.phases none_lacks;
     sound = sound_new;
   }
 

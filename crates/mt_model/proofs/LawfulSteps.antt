@@ -8,6 +8,7 @@ use Rattle.mt_path.specs.declared.area.Area.{Area}
 use Rattle.mt_path.specs.declared.area.Area.TheVariants.{Stor, Public, Jobs}
 use Rattle.mt_types.specs.declared.command.Command.TheVariants.{Put, MakeDirectory, Link, Delete, NewJob, AddInputs, EndInput, Finish, Cancel, NewUpload, AbortUpload}
 use Rattle.mt_types.specs.declared.document.InputLine.{InputLine}
+use Rattle.mt_types.specs.WellMade.{IsDocument}
 use Rattle.mt_types.specs.declared.document.JobDocument.{JobDocument}
 use Rattle.mt_types.specs.declared.job.Job.{Job}
 use Rattle.mt_types.specs.declared.object.Entry.{Entry}
@@ -116,13 +117,15 @@ module _ {B : Type 0} (size : B → ℕ) (s : State B) (law : Lawful s) where
       (LawfulRows-without_row (s.count + 1) s.rows rows_later path (IsTree-remove s.rows path law.rows.tree parts.1))
       (jobs-without_row s.rows path law.rows.tree (not_refused _ _ parts.0))
 
-  pub Lawful-new_job : (document : JobDocument) (moment : ℕ) → s.count < MOST_COMMANDS → Lawful (step s (NewJob document moment))
-  unfolding change step
-  Lawful-new_job document moment room = record {
-    rows = LawfulRows-later s.count (s.count + 1) _ later (LawfulRows-new_job s.count s.rows s.jobs law.rows law.jobs room document moment);
-    jobs = LawfulJobs-new_job s.count s.rows s.jobs law.rows law.jobs room document moment;
-    uploads = LawfulUploads-later s.count (s.count + 1) later s.uploads law.uploads;
-  }
+  pub Lawful-new_job : (document : JobDocument) (moment : ℕ) → IsDocument document → s.count < MOST_COMMANDS → allowed size s (NewJob document moment) ≡ None → Lawful (step s (NewJob document moment))
+  unfolding allowed change step
+  Lawful-new_job document moment is room e =
+      let none = not_refused _ _ (neither _ _ e).0 in
+      record {
+        rows = LawfulRows-later s.count (s.count + 1) _ later (LawfulRows-new_job s.count s.rows s.jobs law.rows law.jobs room document moment is none);
+        jobs = LawfulJobs-new_job s.count s.rows s.jobs law.rows law.jobs room document moment is none;
+        uploads = LawfulUploads-later s.count (s.count + 1) later s.uploads law.uploads;
+      }
 
   pub Lawful-add_inputs : (job : ℕ) (lines : List InputLine) (moment : ℕ) → allowed size s (AddInputs job lines moment) ≡ None → Lawful (step s (AddInputs job lines moment))
   unfolding allowed change step

@@ -19,3 +19,10 @@ pub mod LawfulNewJob
 pub mod LawfulEnds
 pub mod LawfulUploads
 pub mod LawfulSteps
+pub mod Entry
+pub mod Standing
+pub mod Traces
+pub mod Closed
+pub mod Same
+pub mod Stood
+pub mod Finished

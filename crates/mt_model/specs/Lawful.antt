@@ -7,6 +7,7 @@ use Rattle.std.specs.Ordering.{nat_cmp}
 use Rattle.mt_ident.specs.Identifiers.{identifier_number}
 use Rattle.mt_path.specs.AccountPath.{AccountPath, IsComponent, IsPath}
 use Rattle.mt_path.specs.declared.area.Area.TheVariants.{Jobs}
+use Rattle.mt_types.specs.WellMade.{IsDocument}
 use Rattle.mt_types.specs.declared.job.Item.{Item}
 use Rattle.mt_types.specs.declared.job.Job.{Job}
 use Rattle.mt_types.specs.declared.object.Entry.{Entry}
@@ -79,12 +80,15 @@ module _ {B : Type 0} where
     pub component : IsComponent item.root
     pub short : length item.root ≤ longest_root
 
-  -- its number is of a command so far, its names can be made, and its trace is sound
+  -- its number is of a command so far, its names can be made, its document is one with a body for each asset, and its
+  -- trace is sound
   pub record LawfulJob (count : ℕ) (job : Job B) : Type 0 where
     pub number : IsFirstNumber count job.number
     pub positions : All (λ e. e.position < count) job.trace
     pub inputs : All HasRoot job.inputs
     pub outputs : All (λ e. All HasRoot (items_of e.outcome)) job.trace
+    pub document : IsDocument job.document
+    pub assets : map length job.assets ≡ map (λ p. length p.assets) job.document.phases
     pub sound : Sound job
 
   -- the area of jobs holds their folders, with what belongs there, and nothing else

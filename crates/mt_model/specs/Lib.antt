@@ -15,4 +15,6 @@ pub mod Meaning
 pub mod Bodies
 pub mod Keeping
 pub mod Laws
+pub mod Honest
+pub mod Finished
 pub mod Worked

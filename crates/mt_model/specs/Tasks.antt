@@ -119,20 +119,22 @@ module _ {B : Type 0} where
   assets_of content login p bodies =
       map (λ a. record { name = path_text login a.0; bytes = content a.1 }) (zip p.assets bodies)
 
-  -- what a task of a phase is run with, by what its assets hold
+  -- what the task at a place of a phase is run with, over these items and by what its assets hold
+  abbrev pub run_over : (B → List ℕ) → List ℕ → Job B → ℕ → ℕ → Phase → List (Item B) → Run
+  run_over content login job phase place p items = record {
+    job = job.number;
+    phase = phase;
+    exec = p.exec;
+    init = p.init;
+    base = path_text login (job_stor job.number) ++ slash ∷ output_prefix (root_at p.kind items place) phase;
+    object = object_read login p.kind items place;
+    reducer = reducer_at p.kind place;
+    assets = assets_of content login p (unwrap_or (slice_get job.assets phase) []);
+  }
+
+  -- the same over what the phase reads
   abbrev pub run_in : (B → List ℕ) → List ℕ → Job B → ℕ → ℕ → Phase → Run
-  run_in content login job phase place p =
-      let items = feed job phase in
-      record {
-        job = job.number;
-        phase = phase;
-        exec = p.exec;
-        init = p.init;
-        base = path_text login (job_stor job.number) ++ slash ∷ output_prefix (root_at p.kind items place) phase;
-        object = object_read login p.kind items place;
-        reducer = reducer_at p.kind place;
-        assets = assets_of content login p (unwrap_or (slice_get job.assets phase) []);
-      }
+  run_in content login job phase place p = run_over content login job phase place p (feed job phase)
 
   -- what a task is run with, if its phase is one of the job
   abbrev pub run_of : (B → List ℕ) → List ℕ → Job B → ℕ → ℕ → Option Run

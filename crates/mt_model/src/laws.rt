@@ -1,13 +1,20 @@
 //! Laws of the definitions: what holds over references holds over the bytes that they stand for, and each allowed
 //! command keeps a state lawful.
-ghost use Rattle.std.specs.Prelude.{◌≡◌, ℕ, List, Option};
+ghost use Rattle.std.specs.Prelude.{◌≡◌, ◌++◌, ℕ, List, Option};
 ghost use Rattle.mt_path.specs.AccountPath.{AccountPath, IsPath};
 ghost use Rattle.mt_types.specs.declared.command.Command.TheVariants.{Put, MakeDirectory, Link, Delete, NewJob, AddInputs, EndInput, Finish, Cancel, NewUpload, AbortUpload};
 ghost use Rattle.mt_types.specs.declared.body.Body.{Body};
+ghost use Rattle.mt_types.specs.WellMade.{IsDocument};
 ghost use Rattle.mt_types.specs.declared.document.InputLine.{InputLine};
 ghost use Rattle.mt_types.specs.declared.document.JobDocument.{JobDocument};
 ghost use Rattle.mt_types.specs.declared.object.Field.{Field};
 ghost use Rattle.mt_model.specs.Lawful.{Lawful};
+ghost use Rattle.mt_types.specs.declared.command.Command.{Command};
+ghost use Rattle.mt_types.specs.declared.task.Fate.{Fate};
+ghost use Rattle.mt_types.specs.declared.task.Raw.{Raw};
+ghost use Rattle.mt_model.specs.CommandStep.{replay};
+ghost use Rattle.mt_model.specs.Finished.{FinishedJobsMean};
+ghost use Rattle.mt_model.specs.Honest.{Bytes, HonestFrom};
 ghost use Rattle.mt_model.specs.State.{State, first_state};
 ghost use Rattle.mt_model.specs.Laws.{ReplayIsRead, AllowedIsRead, ListingIsRead, SizeIsRead, FeedIsRead, ShareIsRead, ReadyIsRead, FinishIsRead, RunIsRead, InputIsRead, ResolveIsRead, MeaningIsRead, StatesAgree, KeepsLawful, AllowedOfHeld, ReplayGoesOn, RowsKeepLimits};
 
@@ -63,7 +70,7 @@ pub fn commands_keep_lawful()
     ensures make_directory { (path : AccountPath) (moment : ℕ) → IsPath path → KeepsLawful (MakeDirectory path moment) }
     ensures link { (path source : AccountPath) (moment : ℕ) → IsPath path → KeepsLawful (Link path source moment) }
     ensures delete { (path : AccountPath) (moment : ℕ) → KeepsLawful (Delete path moment) }
-    ensures new_job { (document : JobDocument) (moment : ℕ) → KeepsLawful (NewJob document moment) }
+    ensures new_job { (document : JobDocument) (moment : ℕ) → IsDocument document → KeepsLawful (NewJob document moment) }
     ensures add_inputs { (job : ℕ) (lines : List InputLine) (moment : ℕ) → KeepsLawful (AddInputs job lines moment) }
     ensures end_input { (job moment : ℕ) → KeepsLawful (EndInput job moment) }
     ensures finish { (job moment : ℕ) → KeepsLawful (Finish job moment) }
@@ -71,3 +78,33 @@ pub fn commands_keep_lawful()
     ensures new_upload { (path : AccountPath) (content_type : List ℕ) (moment : ℕ) → IsPath path → KeepsLawful (NewUpload path content_type moment) }
     ensures abort_upload { (upload moment : ℕ) → KeepsLawful (AbortUpload upload moment) }
 {}
+
+/// What starts children.
+pub trait Children {
+    ghost use Rattle.std.specs.Prelude.{List, ℕ};
+    ghost use Rattle.mt_types.specs.declared.task.Run.{Run};
+    ghost use Rattle.mt_types.specs.declared.task.Raw.{Raw};
+
+    /// The raw outcomes that a child may give, run with this, over these bytes.
+    ghost gives: { Self → Run → List ℕ → Raw → Type 0 };
+}
+
+/// In each honest history each job that is done and was not cancelled has as outputs exactly what its phases mean over
+/// its inputs, in the order of the commits: each task committed once, and each item read by one task.
+pub fn finished_jobs_mean<P: Children>(children: &P)
+    ensures { (login : List ℕ) (fate_of : Raw → Fate Bytes) → FinishedJobsMean login (P.gives children.now) fate_of }
+{
+    let _ = children;
+}
+
+/// Honest histories go on from where an honest one leads, and each front and each rest of one is honest.
+pub fn honest_histories<P: Children>(children: &P)
+    ensures grows { (login : List ℕ) (fate_of : Raw → Fate Bytes) (s : State Bytes) (h cs : List (Command Bytes))
+        → HonestFrom login (P.gives children.now) fate_of s h → HonestFrom login (P.gives children.now) fate_of (replay s h) cs → HonestFrom login (P.gives children.now) fate_of s (h ++ cs) }
+    ensures fronts { (login : List ℕ) (fate_of : Raw → Fate Bytes) (s : State Bytes) (h cs : List (Command Bytes))
+        → HonestFrom login (P.gives children.now) fate_of s (h ++ cs) → HonestFrom login (P.gives children.now) fate_of s h }
+    ensures rests { (login : List ℕ) (fate_of : Raw → Fate Bytes) (s : State Bytes) (h cs : List (Command Bytes))
+        → HonestFrom login (P.gives children.now) fate_of s (h ++ cs) → HonestFrom login (P.gives children.now) fate_of (replay s h) cs }
+{
+    let _ = children;
+}

@@ -1,4 +1,5 @@
 pub mod Fields
 pub mod Kinds
 pub mod Limits
+pub mod WellMade
 pub mod Values
