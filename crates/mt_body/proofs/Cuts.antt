@@ -82,7 +82,7 @@ begin_push (p ∷ ps) piece some most is =
     })
 
 all_push : (ps : List (List ℕ)) (q : List ℕ) → list_all is_piece ps ≡ true → is_piece q ≡ true → list_all is_piece (ps ++ q ∷ []) ≡ true
-all_push [] q all is = grind (all, is)
+all_push [] q all is = grind (arith, is)
 all_push (p ∷ ps) q all is = let both = two_of (is_piece p) (list_all is_piece ps) all in two_true (is_piece p) (list_all is_piece (ps ++ q ∷ [])) both.0 (all_push ps q both.1 is)
   where
     two_of : (a b : Bool) → (a && b) ≡ true → (a ≡ true) × (b ≡ true)

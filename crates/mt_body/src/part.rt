@@ -63,6 +63,8 @@ pub fn read_body<D: Disk>(
     ensures read { OnlyRead D.seen D.may_leave D.moment D.left_since disk.old disk.new }
     ensures cause { HasCause (D.faults disk.old) (D.faults disk.new) result }
 {
+    // it is below 2 ^ 64, and so is each place within the body
+    let _size = body.size();
     let mut done = 0;
     while done < into.len() {
         let count = read_some(log, disk, body, at + done as u64, &mut into[done..])?;
