@@ -1,0 +1,6 @@
+pub mod Cuts
+pub mod Keeping
+mod Buffers
+mod Parts
+mod Readings
+mod Sendings

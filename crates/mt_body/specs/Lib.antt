@@ -1,0 +1,4 @@
+pub mod Filling
+pub mod Sending
+pub mod Stored
+pub mod Storing
