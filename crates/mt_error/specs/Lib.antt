@@ -1,0 +1,2 @@
+pub mod ErrorTable
+pub mod Refusals
