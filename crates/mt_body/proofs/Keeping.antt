@@ -41,18 +41,18 @@ unfolding bytes_of
 same_bytes ps qs b is = split_len b.len
     (λ none. ap (λ n. take n (flat_map piece_bytes (from_place b.first (ps ++ qs)) ++ replicate b.len 0)) none ∙ sym (ap (λ n. take n (flat_map piece_bytes (from_place b.first ps) ++ replicate b.len 0)) none))
     (λ some.
-      let begin = stored_begins ps b some is in
-      ap (λ l. take b.len (flat_map piece_bytes l ++ replicate b.len 0)) (some_from b.len b.first ps qs (from_place b.first ps) refl some begin)
-      ∙ ap (λ l. take b.len (l ++ replicate b.len 0)) (flat_map-append piece_bytes (from_place b.first ps) qs)
-      ∙ front_read b.len (flat_map piece_bytes (from_place b.first ps)) (flat_map piece_bytes qs) (begin-length b.len (from_place b.first ps) begin))
+    let begin = stored_begins ps b some is in
+    ap (λ l. take b.len (flat_map piece_bytes l ++ replicate b.len 0)) (some_from b.len b.first ps qs (from_place b.first ps) refl some begin)
+    ∙ ap (λ l. take b.len (l ++ replicate b.len 0)) (flat_map-append piece_bytes (from_place b.first ps) qs)
+    ∙ front_read b.len (flat_map piece_bytes (from_place b.first ps)) (flat_map piece_bytes qs) (begin-length b.len (from_place b.first ps) begin))
 
 pub still_stored : (ps qs : List (List ℕ)) (b : Body) → is_stored ps b ≡ true → is_stored (ps ++ qs) b ≡ true
 unfolding is_stored
 still_stored ps qs b is = split_len b.len
     (λ none. ap (λ n. if n == 0 then b.first == 0 else begin_with n (from_place b.first (ps ++ qs))) none ∙ sym (ap (λ n. if n == 0 then b.first == 0 else begin_with n (from_place b.first ps)) none) ∙ is)
     (λ some.
-      let begin = stored_begins ps b some is in
-      begins_stored (ps ++ qs) b some (ap (begin_with b.len) (some_from b.len b.first ps qs (from_place b.first ps) refl some begin) ∙ begin-append b.len (from_place b.first ps) qs begin))
+    let begin = stored_begins ps b some is in
+    begins_stored (ps ++ qs) b some (ap (begin_with b.len) (some_from b.len b.first ps qs (from_place b.first ps) refl some begin) ∙ begin-append b.len (from_place b.first ps) qs begin))
 
 pub keeps : (ps qs : List (List ℕ)) → KeepsBodies ps (ps ++ qs)
 keeps ps qs = record {
