@@ -1,5 +1,5 @@
 -- A log that grows keeps what stands in it.
-use Rattle.std.proofs.Common.{rules, ◌≡◌, ◌<◌, ◌≤◌, ℕ, zero, suc, ◌+◌, ◌-◌, ◌==◌, Bool, true, if◌then◌else◌, List, [], ◌∷◌, ◌++◌, length, take, replicate, refl, sym, ◌∙◌, ap, arith, length-append, append-nil}
+use Rattle.std.proofs.Common.{◌≡◌, ◌<◌, ◌≤◌, ℕ, ◌==◌, true, if◌then◌else◌, List, [], ◌∷◌, ◌++◌, length, take, replicate, refl, sym, ◌∙◌, ap, arith, length-append}
 use Rattle.std.specs.List.{flat_map}
 use Rattle.std.proofs.lemmas.List.{length-replicate, length-take-le, take-append-le, take_at}
 use Rattle.std.proofs.lemmas.List.Concat.{flat_map-append}
@@ -7,7 +7,7 @@ use Rattle.md5.specs.Md5.{md5}
 use Rattle.mt_types.specs.declared.body.Body.{Body}
 use Rattle.mt_log.specs.Places.{end_of, from_place}
 use Rattle.mt_log.proofs.Places.{from_place-append, from_place-end}
-use Rattle.mt_body.specs.Stored.{IsCut, IsStored, KeepsBodies, begin_with, bytes_of, is_stored, piece_bytes}
+use Rattle.mt_body.specs.Stored.{IsCut, KeepsBodies, begin_with, bytes_of, is_stored, piece_bytes}
 use Rattle.mt_body.proofs.Cuts.{begin-append, begin-length, if_not, none_left, split_len}
 
 pub length-bytes_of : (ps : List (List ℕ)) (b : Body) → length (bytes_of ps b) ≡ b.len

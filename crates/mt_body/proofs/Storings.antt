@@ -1,5 +1,5 @@
 -- Pieces of a body that are added to a run one after another, and each end of it.
-use Rattle.std.proofs.Common.{rules, ◌≡◌, ◌≢◌, ◌⊎◌, ⊎_elim, ◌<◌, ◌≤◌, ℕ, zero, suc, ◌+◌, ◌-◌, ◌*◌, ◌/◌, Bool, true, false, if◌then◌else◌, List, [], ◌∷◌, ◌++◌, length, Option, Some, None, option_map, is_some, refl, sym, ◌∙◌, ap, subst, arith, length-append, append_assoc, append-nil}
+use Rattle.std.proofs.Common.{◌≡◌, ◌≢◌, ◌⊎◌, ⊎_elim, ◌<◌, ◌≤◌, ℕ, zero, suc, ◌+◌, ◌-◌, ◌*◌, ◌/◌, Bool, true, false, if◌then◌else◌, List, [], ◌∷◌, ◌++◌, length, Option, Some, None, is_some, refl, sym, ◌∙◌, ap, subst, arith, length-append, append_assoc, append-nil}
 use Rattle.std.specs.Prelude.{nat_le}
 use Rattle.std.specs.Option.{ForSome}
 use Rattle.std.proofs.lemmas.Bool.Decides.{nat_tests}
@@ -13,13 +13,12 @@ use Rattle.mt_edge.proofs.Streams.{left_after, left_all}
 use Rattle.mt_types.specs.declared.body.Body.{Body}
 use Rattle.mt_log.specs.LogImage.{IsBeforeOrAfter, payloads_of}
 use Rattle.mt_log.specs.LogState.{LogState, told}
-use Rattle.mt_log.specs.Places.{end_of}
 use Rattle.mt_log.specs.RunState.{HasTaken, RunState, Running}
 use Rattle.mt_log.proofs.Running.{run_end, run_leaves}
 use Rattle.mt_log.proofs.Told.{mapped_some}
 use Rattle.mt_body.specs.Filling.{AtEnd, EndsSo}
-use Rattle.mt_body.specs.Stored.{IsCut, IsStored, bytes_of, pieces_size, pieces_that_fit}
-use Rattle.mt_body.specs.Storing.{Begun, Broken, LackIs, LastIs, Part, StandsBehind, Stores, TakesMore, Whole}
+use Rattle.mt_body.specs.Stored.{IsCut, pieces_size, pieces_that_fit}
+use Rattle.mt_body.specs.Storing.{Begun, Broken, LackIs, LastIs, Part, StandsBehind, Stores}
 use Rattle.mt_body.specs.declared.fill.End.{End}
 use Rattle.mt_body.specs.declared.fill.End.TheVariants as end
 use Rattle.mt_body.specs.declared.pieces.Storing.{Storing}
@@ -41,6 +40,7 @@ fit_all limit next len fits = split_len len (λ none. ap pieces_size none ∙ sy
     either : (t : Bool) (a used b : ℕ) → nat_le a b ≡ t → a ≡ used → (if t then 0 else 65558 * ((b - used) / 65558)) ≡ 0
     either true a used b is same = refl
     either false a used b is same = let over : b < a = grind (arith, nat_tests, is) in omega (arith, over, same)
+
     no_len : (limit used : ℕ) → pieces_that_fit limit used 0 ≡ 0
     no_len limit used = either (nat_le (used + pieces_size 0) limit) (used + pieces_size 0) used limit refl (omega arith)
 
@@ -55,19 +55,22 @@ fit_some limit next k c some most fits full =
 
 -- nothing was read yet
 pub begun_none : (left : Option (List ℕ)) (sum : Md5) (seen : Option Files) (log : LogState) (run : RunState) → Holds sum [] → (b : Begun left left sum seen seen log run run 0 0) × (length b.bytes ≡ 65536 * length b.pieces)
-begun_none left sum seen log run fresh = (record {
-  bytes = [];
-  took = left_all left;
-  digested = fresh;
-  pieces = [];
-  cut = cut_none;
-  taken = λ records had. subst (λ l. HasTaken seen log run l) (sym (append-nil records)) had;
-  next = omega arith;
-  fits = λ some. absurd (omega (arith, some));
-  total_is = refl;
-  none = λ is. refl;
-  some = λ some. absurd (omega (arith, some));
-}, omega arith)
+begun_none left sum seen log run fresh = (
+  record {
+    bytes = [];
+    took = left_all left;
+    digested = fresh;
+    pieces = [];
+    cut = cut_none;
+    taken = λ records had. subst (λ l. HasTaken seen log run l) (sym (append-nil records)) had;
+    next = omega arith;
+    fits = λ some. absurd (omega (arith, some));
+    total_is = refl;
+    none = λ is. refl;
+    some = λ some. absurd (omega (arith, some));
+  },
+  omega arith,
+)
 
 module _ (l m n : Option (List ℕ)) (sum sum' : Md5) (s t u : Option Files) (log : LogState) (r0 r1 r2 : RunState) (total first : ℕ) (b : Begun l m sum s t log r0 r1 total first) where
   -- one piece more
@@ -75,20 +78,22 @@ module _ (l m n : Option (List ℕ)) (sum sum' : Md5) (s t u : Option Files) (lo
       → ((records : List (List ℕ)) → HasTaken t log r1 records → HasTaken u log r2 (records ++ (0 ∷ piece) ∷ [])) → r2.next ≡ r1.next + 21 + length (0 ∷ piece) → r2.next + 1 ≤ log.limit
       → total' ≡ total + length piece → (total ≡ 0 → first' ≡ r1.next) → (0 < total → first' ≡ first) → (c : Begun l n sum' s u log r0 r2 total' first') × (length piece ≡ 65536 → length c.bytes ≡ 65536 * length c.pieces)
   begun_more full piece total' first' some most took digested taken next fits total_is none more =
-      let size = length-append b.bytes piece in
-      (record {
-        bytes = b.bytes ++ piece;
-        took = left_after l b.bytes m piece n b.took took;
-        digested = digested;
-        pieces = b.pieces ++ (0 ∷ piece) ∷ [];
-        cut = cut_push b.pieces b.bytes piece some most full b.cut;
-        taken = λ records had. subst (λ x. HasTaken u log r2 x) (append_assoc records b.pieces ((0 ∷ piece) ∷ [])) (taken (records ++ b.pieces) (b.taken records had));
-        next = omega (arith, next, b.next, size, full, some, most);
-        fits = λ any. fits;
-        total_is = omega (arith, total_is, b.total_is, size);
-        none = λ is. absurd (omega (arith, is, total_is, some));
-        some = λ any. split_len total (λ is. none is ∙ omega (arith, b.next, b.total_is, is)) (λ is. more is ∙ b.some is);
-      }, λ whole. omega (arith, size, full, whole, length-append b.pieces ((0 ∷ piece) ∷ [])))
+      let size = length-append b.bytes piece in (
+        record {
+          bytes = b.bytes ++ piece;
+          took = left_after l b.bytes m piece n b.took took;
+          digested = digested;
+          pieces = b.pieces ++ (0 ∷ piece) ∷ [];
+          cut = cut_push b.pieces b.bytes piece some most full b.cut;
+          taken = λ records had. subst (λ x. HasTaken u log r2 x) (append_assoc records b.pieces ((0 ∷ piece) ∷ [])) (taken (records ++ b.pieces) (b.taken records had));
+          next = omega (arith, next, b.next, size, full, some, most);
+          fits = λ any. fits;
+          total_is = omega (arith, total_is, b.total_is, size);
+          none = λ is. absurd (omega (arith, is, total_is, some));
+          some = λ any. split_len total (λ is. none is ∙ omega (arith, b.next, b.total_is, is)) (λ is. more is ∙ b.some is);
+        },
+        λ whole. omega (arith, size, full, whole, length-append b.pieces ((0 ∷ piece) ∷ [])),
+      )
 
   -- no byte more
   pub begun_still : (piece : List ℕ) → length piece ≡ 0 → LeftAfter m piece n → Holds sum' (b.bytes ++ piece) → Begun l n sum' s t log r0 r1 total first
@@ -113,19 +118,22 @@ module _ (l m n : Option (List ℕ)) (sum sum' : Md5) (s t u : Option Files) (lo
   no_room full piece some most took digested lacks =
       let size = length-append b.bytes piece in
       let all : length (b.bytes ++ piece) ≡ 65536 * length b.pieces + length piece = omega (arith, size, full) in
-      let grew : r1.next ≡ r0.next + 65558 * length b.pieces = omega (arith, b.next, full) in
-      (record {
-        bytes = b.bytes ++ piece;
-        took = left_after l b.bytes m piece n b.took took;
-        digested = digested;
-        pieces = b.pieces;
-        front = b.bytes;
-        cut = b.cut;
-        is_front = (piece, refl);
-        taken = b.taken;
-        next = grew ∙ ap (λ k. r0.next + k) (fit_some log.limit r0.next (length b.pieces) (length piece) some most (λ any. omega (arith, b.fits (omega (arith, any, full)), grew)) (omega (arith, lacks, grew))
-            ∙ ap (λ k. pieces_that_fit log.limit (r0.next + 1) k) (sym all));
-      }, omega (arith, lacks, grew, all, some, most))
+      let grew : r1.next ≡ r0.next + 65558 * length b.pieces = omega (arith, b.next, full) in (
+        record {
+          bytes = b.bytes ++ piece;
+          took = left_after l b.bytes m piece n b.took took;
+          digested = digested;
+          pieces = b.pieces;
+          front = b.bytes;
+          cut = b.cut;
+          is_front = (piece, refl);
+          taken = b.taken;
+          next = grew ∙ ap (λ k. r0.next + k) (fit_some log.limit r0.next (length b.pieces) (length piece) some most (λ any. omega (arith, b.fits (omega (arith, any, full)), grew)) (omega (arith, lacks, grew))
+              ∙ ap (λ k. pieces_that_fit log.limit (r0.next + 1) k) (sym all));
+          all = λ fits. absurd (omega (arith, fits, lacks, grew, all, some, most));
+        },
+        omega (arith, lacks, grew, all, some, most),
+      )
 
   pub stores_lack : (e : End) (full : length b.bytes ≡ 65536 * length b.pieces) (piece : List ℕ) (log' : LogState) → 0 < length piece → length piece ≤ 65536 → LeftAfter m piece n → Holds sum' (b.bytes ++ piece)
       → log.limit < r1.next + 21 + length (0 ∷ piece) + 1 → log' ≡ log → Stores (LackIs e) l n sum' s t log log' r0 r1
@@ -146,30 +154,37 @@ module _ (l n : Option (List ℕ)) (sum : Md5) (s t : Option Files) (log log' : 
 
   -- no more is read
   pub stores_last : (e : End) (result : Storing) → LastIs e result first total sum → (e ≢ end.Failed → AtEnd n) → log' ≡ log → Stores result l n sum s t log log' r0 r1
-  stores_last e (storing.Stored body) last at_end same = (record {
-    bytes = b.bytes;
-    took = b.took;
-    ended = at_end last.0;
-    digested = b.digested;
-    pieces = b.pieces;
-    cut = b.cut;
-    taken = b.taken;
-    len = last.2 ∙ b.total_is;
-    stands = stands body last.1 last.2 last.3;
-    next = b.next;
-    fits = λ before. split_len (length b.bytes) (λ none. omega (arith, b.next, none, before)) b.fits;
-  }, same)
-  stores_last e storing.SourceFault last at_end same = (record {
-    bytes = b.bytes;
-    took = b.took;
-    digested = b.digested;
-    pieces = b.pieces;
-    front = b.bytes;
-    cut = b.cut;
-    is_front = ([], append-nil b.bytes);
-    taken = b.taken;
-    next = b.next ∙ ap (λ k. r0.next + k) (fit_all log.limit r0.next (length b.bytes) (λ some. omega (arith, b.fits some, b.next)));
-  }, same)
+  stores_last e (storing.Stored body) last at_end same = (
+    record {
+      bytes = b.bytes;
+      took = b.took;
+      ended = at_end last.0;
+      digested = b.digested;
+      pieces = b.pieces;
+      cut = b.cut;
+      taken = b.taken;
+      len = last.2 ∙ b.total_is;
+      stands = stands body last.1 last.2 last.3;
+      next = b.next;
+      fits = λ before. split_len (length b.bytes) (λ none. omega (arith, b.next, none, before)) b.fits;
+    },
+    same,
+  )
+  stores_last e storing.SourceFault last at_end same = (
+    record {
+      bytes = b.bytes;
+      took = b.took;
+      digested = b.digested;
+      pieces = b.pieces;
+      front = b.bytes;
+      cut = b.cut;
+      is_front = ([], append-nil b.bytes);
+      taken = b.taken;
+      next = b.next ∙ ap (λ k. r0.next + k) (fit_all log.limit r0.next (length b.bytes) (λ some. omega (arith, b.fits some, b.next)));
+      all = λ fits. refl;
+    },
+    same,
+  )
   stores_last e storing.Full last at_end same = absurd last
   stores_last e storing.Disk last at_end same = absurd last
   stores_last e storing.Memory last at_end same = absurd last

@@ -1,10 +1,10 @@
-use Rattle.std.proofs.Common.{rules, ◌≡◌, ◌+◌, ◌*◌, ◌/◌, ◌%◌, ◌≤◌, ◌<◌, ◌++◌, ℕ, List, arith, length, take, drop, ap, sym, ◌∙◌}
+use Rattle.std.proofs.Common.{◌+◌, ◌%◌, arith, drop, ap, ◌∙◌}
 use Rattle.std.proofs.lemmas.List.{length-take-le, take_at}
 use Rattle.std.specs.List.{slice_range}
-use Rattle.mt_log.specs.Places.{end_of, payload_at}
+use Rattle.mt_log.specs.Places.{payload_at}
 use Rattle.mt_log.proofs.Places.{end_of-holds}
 use Rattle.mt_log.proofs.Standing.{tells_log}
-use Rattle.mt_body.proofs.Parts.{PartOf, part_of}
+use Rattle.mt_body.proofs.Parts.{part_of}
 use Rattle.mt_body.proofs.part.read_some.Goals as goal
 
 pub read_part-requires-clause-part : goal.read_part-requires-clause-part

@@ -1,5 +1,5 @@
 -- The run has the pieces of all bytes that were read, each of them full.
-use Rattle.std.proofs.Common.{◌≡◌, ◌≤◌, ◌+◌, ◌-◌, ◌*◌, [], false, length}
+use Rattle.std.proofs.Common.{◌≡◌, ◌≤◌, ◌-◌, ◌*◌, [], false, length}
 use Rattle.std.specs.Option.{ForSome}
 use Rattle.mt_base.specs.Counts.{NeverFell}
 use Rattle.mt_disk.specs.CrashModel.{LeavesOnly}

@@ -1,4 +1,4 @@
-use Rattle.std.proofs.Common.{rules, ◌≡◌, ◌≤◌, ◌<◌, ◌+◌, ◌-◌, ◌∙◌, ◌++◌, [], List, ℕ, length, take, drop, ap, sym, arith, length-append, length-drop}
+use Rattle.std.proofs.Common.{◌≡◌, ◌≤◌, ◌+◌, ◌-◌, ◌∙◌, ◌++◌, [], length, take, drop, ap, sym, arith, length-append, length-drop}
 use Rattle.std.proofs.lemmas.List.{length-take-le, take-append-le}
 use Rattle.mt_disk.proofs.Readings.{reads_none, reads_on}
 use Rattle.mt_edge.proofs.Streams.{got_more, got_nothing}
