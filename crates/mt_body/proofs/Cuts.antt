@@ -1,5 +1,5 @@
 -- Pieces of bytes.
-use Rattle.std.proofs.Common.{rules, ◌≡◌, ◌<◌, ◌≤◌, ℕ, ◌+◌, ◌-◌, ◌*◌, min, ◌==◌, ◌&&◌, Bool, true, false, zero, suc, if◌then◌else◌, List, [], ◌∷◌, ◌++◌, length, refl, sym, ◌∙◌, ap, arith, length-append, append-nil}
+use Rattle.std.proofs.Common.{◌≡◌, ◌<◌, ◌≤◌, ℕ, ◌+◌, ◌-◌, ◌*◌, min, ◌==◌, ◌&&◌, Bool, true, false, zero, suc, if◌then◌else◌, List, [], ◌∷◌, ◌++◌, length, refl, sym, ◌∙◌, ap, arith, length-append, append-nil}
 use Rattle.std.specs.List.{flat_map, list_all}
 use Rattle.std.proofs.lemmas.List.Concat.{flat_map-append}
 use Rattle.mt_codec.specs.Pieces.{is_piece}
@@ -88,6 +88,7 @@ all_push (p ∷ ps) q all is = let both = two_of (is_piece p) (list_all is_piece
     two_of : (a b : Bool) → (a && b) ≡ true → (a ≡ true) × (b ≡ true)
     two_of true b is = (refl, is)
     two_of false b is = absurd (cc is)
+
     two_true : (a b : Bool) → a ≡ true → b ≡ true → (a && b) ≡ true
     two_true true b x y = y
     two_true false b x y = absurd (cc x)

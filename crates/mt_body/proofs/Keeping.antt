@@ -1,5 +1,5 @@
 -- A log that grows keeps what stands in it.
-use Rattle.std.proofs.Common.{rules, ◌≡◌, ◌<◌, ◌≤◌, ℕ, zero, suc, ◌+◌, ◌-◌, ◌==◌, Bool, true, if◌then◌else◌, List, [], ◌∷◌, ◌++◌, length, take, replicate, refl, sym, ◌∙◌, ap, arith, length-append, append-nil}
+use Rattle.std.proofs.Common.{◌≡◌, ◌<◌, ◌≤◌, ℕ, ◌==◌, true, if◌then◌else◌, List, [], ◌∷◌, ◌++◌, length, take, replicate, refl, sym, ◌∙◌, ap, arith, length-append}
 use Rattle.std.specs.List.{flat_map}
 use Rattle.std.proofs.lemmas.List.{length-replicate, length-take-le, take-append-le, take_at}
 use Rattle.std.proofs.lemmas.List.Concat.{flat_map-append}
@@ -7,7 +7,7 @@ use Rattle.md5.specs.Md5.{md5}
 use Rattle.mt_types.specs.declared.body.Body.{Body}
 use Rattle.mt_log.specs.Places.{end_of, from_place}
 use Rattle.mt_log.proofs.Places.{from_place-append, from_place-end}
-use Rattle.mt_body.specs.Stored.{IsCut, IsStored, KeepsBodies, begin_with, bytes_of, is_stored, piece_bytes}
+use Rattle.mt_body.specs.Stored.{IsCut, KeepsBodies, begin_with, bytes_of, is_stored, piece_bytes}
 use Rattle.mt_body.proofs.Cuts.{begin-append, begin-length, if_not, none_left, split_len}
 
 pub length-bytes_of : (ps : List (List ℕ)) (b : Body) → length (bytes_of ps b) ≡ b.len
@@ -41,18 +41,18 @@ unfolding bytes_of
 same_bytes ps qs b is = split_len b.len
     (λ none. ap (λ n. take n (flat_map piece_bytes (from_place b.first (ps ++ qs)) ++ replicate b.len 0)) none ∙ sym (ap (λ n. take n (flat_map piece_bytes (from_place b.first ps) ++ replicate b.len 0)) none))
     (λ some.
-      let begin = stored_begins ps b some is in
-      ap (λ l. take b.len (flat_map piece_bytes l ++ replicate b.len 0)) (some_from b.len b.first ps qs (from_place b.first ps) refl some begin)
-      ∙ ap (λ l. take b.len (l ++ replicate b.len 0)) (flat_map-append piece_bytes (from_place b.first ps) qs)
-      ∙ front_read b.len (flat_map piece_bytes (from_place b.first ps)) (flat_map piece_bytes qs) (begin-length b.len (from_place b.first ps) begin))
+    let begin = stored_begins ps b some is in
+    ap (λ l. take b.len (flat_map piece_bytes l ++ replicate b.len 0)) (some_from b.len b.first ps qs (from_place b.first ps) refl some begin)
+    ∙ ap (λ l. take b.len (l ++ replicate b.len 0)) (flat_map-append piece_bytes (from_place b.first ps) qs)
+    ∙ front_read b.len (flat_map piece_bytes (from_place b.first ps)) (flat_map piece_bytes qs) (begin-length b.len (from_place b.first ps) begin))
 
 pub still_stored : (ps qs : List (List ℕ)) (b : Body) → is_stored ps b ≡ true → is_stored (ps ++ qs) b ≡ true
 unfolding is_stored
 still_stored ps qs b is = split_len b.len
     (λ none. ap (λ n. if n == 0 then b.first == 0 else begin_with n (from_place b.first (ps ++ qs))) none ∙ sym (ap (λ n. if n == 0 then b.first == 0 else begin_with n (from_place b.first ps)) none) ∙ is)
     (λ some.
-      let begin = stored_begins ps b some is in
-      begins_stored (ps ++ qs) b some (ap (begin_with b.len) (some_from b.len b.first ps qs (from_place b.first ps) refl some begin) ∙ begin-append b.len (from_place b.first ps) qs begin))
+    let begin = stored_begins ps b some is in
+    begins_stored (ps ++ qs) b some (ap (begin_with b.len) (some_from b.len b.first ps qs (from_place b.first ps) refl some begin) ∙ begin-append b.len (from_place b.first ps) qs begin))
 
 pub keeps : (ps qs : List (List ℕ)) → KeepsBodies ps (ps ++ qs)
 keeps ps qs = record {

@@ -4,3 +4,4 @@ mod Buffers
 mod Parts
 mod Readings
 mod Sendings
+mod Storings

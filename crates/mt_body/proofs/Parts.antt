@@ -1,14 +1,14 @@
 -- A part of a stored body, within one of its pieces.
-use Rattle.std.proofs.Common.{rules, ◌≡◌, ◌<◌, ◌≤◌, ℕ, zero, suc, ◌+◌, ◌-◌, ◌*◌, ◌/◌, ◌%◌, min, Bool, true, List, [], ◌∷◌, ◌++◌, length, take, drop, replicate, refl, sym, ◌∙◌, ap, arith, length-append, length-drop, append_assoc}
+use Rattle.std.proofs.Common.{◌≡◌, ◌<◌, ◌≤◌, ℕ, zero, suc, ◌+◌, ◌-◌, ◌*◌, ◌/◌, ◌%◌, min, true, List, [], ◌∷◌, ◌++◌, length, take, drop, replicate, refl, sym, ◌∙◌, ap, arith, length-append, length-drop, append_assoc}
 use Rattle.std.specs.List.{flat_map, slice_range}
-use Rattle.std.proofs.lemmas.List.{drop-append-le, drop-take, drop_at, take-append-le, take-take}
+use Rattle.std.proofs.lemmas.List.{drop-append-le, drop-take, take-append-le, take-take}
 use Rattle.std.proofs.Math.Seq.{drop-append-add}
 use Rattle.mt_types.specs.declared.body.Body.{Body}
 use Rattle.mt_codec.specs.Pieces.{is_piece}
 use Rattle.mt_log.specs.Places.{end_from, end_of, first_payload, from_place, payload_at}
-use Rattle.mt_log.proofs.Places.{Behind, behind, end_from-append, end_from-rises, from_place-next}
+use Rattle.mt_log.proofs.Places.{behind, end_from-append, end_from-rises, from_place-next}
 use Rattle.mt_body.specs.Stored.{begin_with, bytes_of, is_stored, piece_bytes}
-use Rattle.mt_body.proofs.Cuts.{begin-length, begins, none_left}
+use Rattle.mt_body.proofs.Cuts.{begins, none_left}
 use Rattle.mt_body.proofs.Keeping.{stored_begins}
 
 mark_and_bytes : (p : List ℕ) → is_piece p ≡ true → length p ≡ 1 + length (piece_bytes p)

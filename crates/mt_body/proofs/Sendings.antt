@@ -1,5 +1,5 @@
 -- What was sent of a body when a call failed.
-use Rattle.std.proofs.Common.{◌≡◌, ◌<◌, ◌≤◌, ℕ, ◌+◌, ◌-◌, List, [], ◌++◌, length, take, drop, replicate, Option, Some, None, refl, sym, ◌∙◌, ap, subst, arith, length-append}
+use Rattle.std.proofs.Common.{◌≡◌, ◌<◌, ◌≤◌, ℕ, ◌+◌, ◌-◌, List, ◌++◌, length, take, drop, replicate, Option, Some, None, refl, sym, ◌∙◌, ap, arith, length-append}
 use Rattle.std.specs.Option.{ForSome}
 use Rattle.std.proofs.lemmas.List.{length-drop, length-replicate, length-take-le, take-append-drop, take-take, take_at}
 use Rattle.std.proofs.lemmas.Option.{none-some, same_Some}
@@ -38,7 +38,7 @@ all_sent o sent from at to b order within most count are =
     rest_of sent (to - from) o (λ ps. take (to - from) (drop from (bytes_of ps b))) (omega (arith, count, within))
     (λ ps is. length-take-le (to - from) (drop from (bytes_of ps b)) (omega (arith, length-drop from (bytes_of ps b), length-bytes_of ps b, most)))
     (λ ps is.
-      are ps is ∙ ap (λ n. take n (drop from (bytes_of ps b))) (sym count) ∙ sym (take-take (length sent) (to - from) (drop from (bytes_of ps b)) (omega (arith, count, within))))
+    are ps is ∙ ap (λ n. take n (drop from (bytes_of ps b))) (sym count) ∙ sym (take-take (length sent) (to - from) (drop from (bytes_of ps b)) (omega (arith, count, within))))
 
 -- a part more
 pub sent_more : (bytes piece more : List ℕ) (from at count : ℕ) → from ≤ at → piece ≡ take (at - from) (drop from bytes) → more ≡ take count (drop at bytes) → piece ++ more ≡ take (at + count - from) (drop from bytes)

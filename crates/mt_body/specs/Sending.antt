@@ -1,5 +1,5 @@
 -- What sending a part of a body does to a sink.
-use Rattle.std.specs.Prelude.{◌≡◌, ℕ, List, Option}
+use Rattle.std.specs.Prelude.{ℕ, List, Option}
 use Rattle.mt_base.specs.Counts.{NeverFell, Rose}
 use Rattle.mt_edge.specs.Stream.{GotMore, WritesFront}
 use Rattle.mt_body.specs.declared.send.Sent.{Sent}

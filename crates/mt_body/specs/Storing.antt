@@ -1,5 +1,5 @@
 -- How a body is stored from a source in a run of records.
-use Rattle.std.specs.Prelude.{◌≡◌, ◌≢◌, ℕ, ◌+◌, ◌≤◌, ◌<◌, true, List, [], ◌∷◌, ◌++◌, length, Option, Some}
+use Rattle.std.specs.Prelude.{◌≡◌, ◌≢◌, ℕ, ◌+◌, ◌≤◌, ◌<◌, true, List, ◌++◌, length, Option, Some}
 use Rattle.md5.specs.Md5.{Holds, md5}
 use Rattle.md5.specs.declared.Md5.{Md5}
 use Rattle.mt_base.specs.Lists.{IsPrefixOf}
@@ -41,7 +41,7 @@ pub record Whole (body : Body) (left left' : Option (List ℕ)) (sum' : Md5) (se
   -- where the log was not over its limit before
   pub fits : run.next + 1 ≤ log.limit → run'.next + 1 ≤ log.limit
 
--- some bytes of the source were read and digested, and those of them that had room are in the run as pieces
+-- some bytes of the source were read and digested, and those of the front that had room are in the run as pieces
 pub record Part (left left' : Option (List ℕ)) (sum' : Md5) (seen seen' : Option Files) (log : LogState) (run run' : RunState) : Type 0 where
   pub bytes : List ℕ
   pub took : LeftAfter left bytes left'
@@ -52,6 +52,7 @@ pub record Part (left left' : Option (List ℕ)) (sum' : Md5) (seen seen' : Opti
   pub is_front : IsPrefixOf front bytes
   pub taken : TakesMore seen log run pieces seen' run'
   pub next : run'.next ≡ run.next + pieces_that_fit log.limit (run.next + 1) (length bytes)
+  pub all : run.next + pieces_size (length bytes) + 1 ≤ log.limit → front ≡ bytes
 
 -- a disk fault: some bytes of the source were read and digested, and the log is closed
 pub record Broken (left left' : Option (List ℕ)) (sum' : Md5) (log log' : LogState) : Type 0 where

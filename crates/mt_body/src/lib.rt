@@ -14,5 +14,5 @@ mod send;
 
 pub use digest::{Drained, digest_rest};
 pub use part::read_body;
-pub use pieces::Storing;
+pub use pieces::{Storing, store};
 pub use send::{Sent, send_body};

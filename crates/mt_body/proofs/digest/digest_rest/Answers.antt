@@ -1,4 +1,4 @@
-use Rattle.std.proofs.Common.{rules, ◌≡◌, ◌≤◌, ◌+◌, ◌++◌, List, ℕ, length, take, arith, subst, append_assoc, length-append}
+use Rattle.std.proofs.Common.{◌++◌, take, arith, subst, append_assoc, length-append}
 use Rattle.std.proofs.lemmas.List.{length-take-le}
 use Rattle.md5.specs.Md5.{Holds}
 use Rattle.mt_edge.proofs.Streams.{left_after}

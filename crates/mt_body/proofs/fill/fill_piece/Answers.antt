@@ -1,4 +1,4 @@
-use Rattle.std.proofs.Common.{◌≡◌, ◌≤◌, ◌∙◌, length, arith, ap}
+use Rattle.std.proofs.Common.{◌∙◌, length, arith}
 use borrow.Rule.Slice.PartMut.{same_len_mid, mid_len}
 use Rattle.mt_body.proofs.Buffers.{took_on}
 use Rattle.mt_body.proofs.fill.fill_piece.Goals as goal

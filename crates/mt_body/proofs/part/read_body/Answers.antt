@@ -1,4 +1,4 @@
-use Rattle.std.proofs.Common.{rules, ◌≡◌, ◌≤◌, ◌-◌, ◌∙◌, length, ap, arith}
+use Rattle.std.proofs.Common.{◌-◌, ◌∙◌, length, ap, arith}
 use borrow.Rule.Slice.PartMut.{mid_len, same_len_mid}
 use Rattle.mt_disk.proofs.Readings.{reads_on}
 use Rattle.mt_log.specs.LogState.{told}

@@ -1,4 +1,4 @@
-use Rattle.std.proofs.Common.{rules, ◌≡◌, ◌≤◌, ◌<◌, ◌+◌, ◌-◌, ◌∙◌, ◌++◌, [], List, ℕ, length, take, drop, ap, sym, arith, length-append, length-drop}
+use Rattle.std.proofs.Common.{◌≡◌, ◌≤◌, ◌+◌, ◌-◌, ◌∙◌, ◌++◌, [], length, take, drop, ap, sym, arith, length-append, length-drop}
 use Rattle.std.proofs.lemmas.List.{length-take-le, take-append-le}
 use Rattle.mt_disk.proofs.Readings.{reads_none, reads_on}
 use Rattle.mt_edge.proofs.Streams.{got_more, got_nothing}
@@ -77,9 +77,8 @@ returns-in-Err-write_all-clause-sent g c =
     let n = length w.written in
     let here : c.loop-at.at + n ≤ c.args.to = omega (arith, w.short, size, few, c.read_some.auto.into, part, c.min-wanted.ensures, c.loop-at-test.true) in
     let r = all_sent (told (g.D.Disk.seen c.args.disk.now)) sent c.args.from (c.loop-at.at + n) c.args.to c.args.body.now (omega (arith, i.order)) here c.requires.part.1 (omega (arith, length-append i.bytes w.written, i.count, i.order))
-          (λ ps is. sent_more (bytes_of ps c.args.body.now) i.bytes w.written c.args.from c.loop-at.at n i.order (i.are ps is)
-            (front_is w.written more (drop c.loop-at.at (bytes_of ps c.args.body.now)) count w.front (is_more ∙ c.in-Ok.ensures.bytes ps (ap told i.read.seen_same ∙ is)) (omega (arith, w.short, size)))) in
-    (
+    (λ ps is. sent_more (bytes_of ps c.args.body.now) i.bytes w.written c.args.from c.loop-at.at n i.order (i.are ps is)
+    (front_is w.written more (drop c.loop-at.at (bytes_of ps c.args.body.now)) count w.front (is_more ∙ c.in-Ok.ensures.bytes ps (ap told i.read.seen_same ∙ is)) (omega (arith, w.short, size)))) in (
       r.bytes,
       r.size,
       (
