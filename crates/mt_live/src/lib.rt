@@ -5,4 +5,4 @@
 
 mod listing;
 
-pub use listing::{RowSize, page_text};
+pub use listing::page_text;
