@@ -1,0 +1,2 @@
+pub mod ReplyFields
+pub mod Replies
