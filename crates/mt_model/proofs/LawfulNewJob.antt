@@ -82,7 +82,7 @@ all_numbers f y (x ∷ xs) a = All-cons (λ z. z < y) (f x) (map f xs) (All-head
 
 -- ---- assets
 
-or_none : (a b : Bool) → (a || b) ≡ false → (a ≡ false) × (b ≡ false)
+pub or_none : (a b : Bool) → (a || b) ≡ false → (a ≡ false) × (b ≡ false)
 or_none true b e = cc
 or_none false b e = (refl, e)
 
@@ -107,7 +107,7 @@ module _ {B : Type 0} (rows : Rows B) where
 -- ---- names of jobs
 
 -- a job's name tells its number
-name_injective : (m n : ℕ) → m < 2 ^ 62 → n < 2 ^ 62 → job_name m ≡ job_name n → m ≡ n
+pub name_injective : (m n : ℕ) → m < 2 ^ 62 → n < 2 ^ 62 → job_name m ≡ job_name n → m ≡ n
 name_injective m n small small' same =
     let first : identifier_number 2 (identifier_text 2 m) ≡ Some m = identifier_number-written 2 m (identifier_text 2 m) (record { known = (omega arith, omega arith); small = small; written = refl }) in
     let second : identifier_number 2 (identifier_text 2 n) ≡ Some n = identifier_number-written 2 n (identifier_text 2 n) (record { known = (omega arith, omega arith); small = small'; written = refl }) in

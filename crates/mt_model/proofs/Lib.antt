@@ -18,6 +18,7 @@ pub mod LawfulInputs
 pub mod LawfulNewJob
 pub mod LawfulEnds
 pub mod LawfulUploads
+pub mod LawfulParts
 pub mod LawfulSteps
 pub mod Entry
 pub mod Standing
