@@ -60,7 +60,7 @@ find_last : {X : Type 0} (t : X → Bool) (xs : List X) (x : X) → t x ≡ true
 find_last t [] x h e = ap (λ b. cond b (Some x) None) h
 find_last t (y ∷ xs) x h e = last_case (find t xs) (find t (xs ++ x ∷ [])) x y (t y) (find_last t xs x h) e
 
-list_all-same : {X : Type 0} (P : X → Type 0) (s t : X → Bool) → ((x : X) → P x → s x ≡ t x) → (xs : List X) → AllByRecursion P xs → list_all s xs ≡ list_all t xs
+pub list_all-same : {X : Type 0} (P : X → Type 0) (s t : X → Bool) → ((x : X) → P x → s x ≡ t x) → (xs : List X) → AllByRecursion P xs → list_all s xs ≡ list_all t xs
 list_all-same P s t each [] a = refl
 list_all-same P s t each (x ∷ xs) a = ap (λ b. b && list_all s xs) (each x a.0) ∙ ap (λ b. t x && b) (list_all-same P s t each xs a.1)
 

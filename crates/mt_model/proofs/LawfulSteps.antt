@@ -7,7 +7,8 @@ use Rattle.std.proofs.lemmas.List.Elements.{All-nil, All-cons, All-head, All-tai
 use Rattle.mt_path.specs.AccountPath.{AccountPath, IsPath, root_of}
 use Rattle.mt_path.specs.declared.area.Area.{Area}
 use Rattle.mt_path.specs.declared.area.Area.TheVariants.{Stor, Public, Jobs}
-use Rattle.mt_types.specs.declared.command.Command.TheVariants.{Put, MakeDirectory, Link, Delete, NewJob, AddInputs, EndInput, Finish, Cancel, NewUpload, PutPart, CommitUpload, AbortUpload}
+use Rattle.mt_types.specs.declared.command.Command.TheVariants.{Put, MakeDirectory, Link, Delete, NewJob, AddInputs, EndInput, Finish, Cancel, Close, NewUpload, PutPart, CommitUpload, AbortUpload}
+use Rattle.mt_types.specs.declared.command.Archive.{Archive}
 use Rattle.mt_types.specs.declared.document.InputLine.{InputLine}
 use Rattle.mt_types.specs.WellMade.{IsDocument}
 use Rattle.mt_types.specs.declared.document.JobDocument.{JobDocument}
@@ -21,14 +22,16 @@ use Rattle.mt_types.specs.declared.refusal.Refusal.TheVariants.{UploadPart, Uplo
 use Rattle.mt_types.specs.declared.upload.Stage.TheVariants.{Aborted, Committed}
 use Rattle.mt_types.specs.declared.upload.Upload.{Upload}
 use Rattle.mt_model.specs.CommandStep.{allowed, change, linked, put_object, step}
-use Rattle.mt_model.specs.JobSteps.{add_inputs_refusal, done_at, finish_refusal, input_refusal, running_refusal, with_end, with_lines}
+use Rattle.mt_model.specs.JobSteps.{add_inputs_refusal, archive_bodies, close, close_refusal, done_at, job_refusal, finish_refusal, input_refusal, running_refusal, with_end, with_lines}
 use Rattle.mt_model.specs.Lawful.{HasFolders, IsBelow, Lawful, LawfulJob, LawfulRows, LawfulUpload}
 use Rattle.mt_types.specs.declared.limits.TheConstants.{LARGEST_BODY, MOST_COMMANDS}
 use Rattle.mt_model.specs.Names.{number_at}
 use Rattle.mt_model.specs.Rows.{Rows, at, first_refusal, first_rows, is_path, link_refusal, object_at, object_in, put_refusal, refuse_if, with_row, without_row}
-use Rattle.mt_model.specs.State.{State, first_state, upload_at, with_job}
+use Rattle.mt_model.specs.State.{State, first_state, job_at, upload_at, with_job}
 use Rattle.mt_model.specs.UploadSteps.{commit_upload, commit_upload_refusal, is_jobs, is_listed, is_open, listed, upload_object, upload_refusal}
-use Rattle.mt_model.proofs.LawfulEnds.{KeepsJob-done, LawfulJob-cancelled, LawfulJob-finished}
+use Rattle.mt_model.proofs.LawfulEnds.{KeepsJob-done, LawfulJob-closed, LawfulJob-cancelled, LawfulJob-finished}
+use Rattle.mt_model.proofs.LawfulClose.{LawfulJobs-closed, LawfulRows-closed}
+use Rattle.mt_model.proofs.Standing.{complete_closed}
 use Rattle.mt_model.proofs.LawfulInputs.{KeepsJob-end, KeepsJob-lines, LawfulJob-ended, lines_good, open-allowed, or_none}
 use Rattle.mt_model.proofs.LawfulJobs.{KeepsJob, LawfulJobs-changed, LawfulJobs-same, found, in_jobs}
 use Rattle.mt_model.proofs.LawfulNewJob.{LawfulJobs-new_job, LawfulRows-new_job, sorted_nil}
@@ -163,6 +166,27 @@ module _ {B : Type 0} (size : B → ℕ) (s : State B) (law : Lawful s) where
       (both (LawfulJob s.count) (λ j. j.number ≡ job → running_refusal j ≡ None) (λ j. j.number ≡ job → LawfulJob s.count (done_at moment true j))
       (λ j l none same. LawfulJob-cancelled s.count j moment l)
       s.jobs law.jobs.each (found job running_refusal s.jobs law.jobs.rising e))
+
+  -- a job that is closed is as one that is finished or cancelled
+  closed_good : (cancelled : Bool) (moment : ℕ) (j : Job B) → close_refusal cancelled j ≡ None → LawfulJob s.count j → LawfulJob s.count (done_at moment cancelled j)
+  closed_good cancelled moment j none l = LawfulJob-closed s.count j moment cancelled (complete_closed j cancelled none) l
+
+  close_case : (job : ℕ) (cancelled : Bool) (archive : Archive B) (moment : ℕ) → s.count < MOST_COMMANDS → (o : Option (Job B)) → job_at s.jobs job ≡ o → job_refusal o (close_refusal cancelled) ≡ None
+      → All (λ j. j.number ≡ job → LawfulJob s.count (done_at moment cancelled j)) s.jobs → Lawful (record (close s job cancelled archive moment) { count = s.count + 1 })
+  close_case job cancelled archive moment room None at e good = cc
+  close_case job cancelled archive moment room (Some j) at e good = record {
+    rows = LawfulRows-closed s.count s.rows s.jobs law.rows law.jobs room job moment cancelled (archive_bodies archive) refl j at good;
+    jobs = LawfulJobs-closed s.count s.rows s.jobs law.rows law.jobs room job moment cancelled (archive_bodies archive) refl j at good;
+    uploads = LawfulUploads-later s.count (s.count + 1) later s.uploads law.uploads;
+  }
+
+  pub Lawful-close : (job : ℕ) (cancelled : Bool) (archive : Archive B) (moment : ℕ) → s.count < MOST_COMMANDS → allowed size s (Close job cancelled archive moment) ≡ None → Lawful (step s (Close job cancelled archive moment))
+  unfolding allowed change step
+  Lawful-close job cancelled archive moment room e =
+      close_case job cancelled archive moment room (job_at s.jobs job) refl e
+      (both (LawfulJob s.count) (λ j. j.number ≡ job → close_refusal cancelled j ≡ None) (λ j. j.number ≡ job → LawfulJob s.count (done_at moment cancelled j))
+      (λ j l none same. closed_good cancelled moment j (none same) l)
+      s.jobs law.jobs.each (found job (close_refusal cancelled) s.jobs law.jobs.rising e))
 
   pub Lawful-new_upload : (path : AccountPath) (content_type : List ℕ) (moment : ℕ) → IsPath path → allowed size s (NewUpload path content_type moment) ≡ None → Lawful (step s (NewUpload path content_type moment))
   unfolding allowed change step
