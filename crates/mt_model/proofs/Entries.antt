@@ -62,7 +62,7 @@ module _ {K X : Type 0} (P : K → Type 0) (test : K → Bool) where
   ]
 
 module _ {K : Type 0} {R : K → K → Ordering} (o : IsTotalOrder R) (k : K) where
-  all_above : (e : K) (ks : List K) → R k e ≡ Less → AllByRecursion (λ y. R e y ≡ Less) ks → AllByRecursion (λ y. R k y ≡ Less) ks
+  pub all_above : (e : K) (ks : List K) → R k e ≡ Less → AllByRecursion (λ y. R e y ≡ Less) ks → AllByRecursion (λ y. R k y ≡ Less) ks
   all_above e [] below all = tt
   all_above e (x ∷ ks) below all = (o.trans k e x below all.0, all_above e ks below all.1)
 

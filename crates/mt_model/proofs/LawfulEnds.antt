@@ -23,8 +23,8 @@ module _ {B : Type 0} where
     cancelled = λ e. refl;
   }
 
-  done_good : (n : ℕ) (j : Job B) (moment : ℕ) (cancelled : Bool) → LawfulJob n j → (cancelled ≡ false → (j.ended ≡ true) × (all_complete j ≡ true)) → LawfulJob n (done_at moment cancelled j)
-  done_good n j moment cancelled law complete = record {
+  pub LawfulJob-closed : (n : ℕ) (j : Job B) (moment : ℕ) (cancelled : Bool) → (cancelled ≡ false → (j.ended ≡ true) × (all_complete j ≡ true)) → LawfulJob n j → LawfulJob n (done_at moment cancelled j)
+  LawfulJob-closed n j moment cancelled complete law = record {
     number = law.number;
     positions = law.positions;
     inputs = law.inputs;
@@ -35,13 +35,13 @@ module _ {B : Type 0} where
   }
 
   pub LawfulJob-cancelled : (n : ℕ) (j : Job B) (moment : ℕ) → LawfulJob n j → LawfulJob n (done_at moment true j)
-  LawfulJob-cancelled n j moment law = done_good n j moment true law (λ e. absurd (true≢false e))
+  LawfulJob-cancelled n j moment law = LawfulJob-closed n j moment true (λ e. absurd (true≢false e)) law
 
   pub LawfulJob-finished : (n : ℕ) (j : Job B) (moment : ℕ) → finish_refusal j ≡ None → LawfulJob n j → LawfulJob n (done_at moment false j)
   LawfulJob-finished n j moment e law =
       let waits : waits_finish j ≡ true = holds_if _ (not_refused _ _ (neither _ _ e).1) in
       let both : (is_running j && j.ended) ≡ true = and_left _ _ waits in
-      done_good n j moment false law (λ is. (and_right (is_running j) j.ended both, and_right (is_running j && j.ended) _ waits))
+      LawfulJob-closed n j moment false (λ is. (and_right (is_running j) j.ended both, and_right (is_running j && j.ended) _ waits)) law
 
   pub KeepsJob-done : (moment : ℕ) (cancelled : Bool) → KeepsJob {B = B} (done_at moment cancelled)
   KeepsJob-done moment cancelled = record { number = λ j. refl; done = λ j some. refl }

@@ -86,7 +86,7 @@ module _ {B : Type 0} where
         map-map (λ j. j.number) changed jobs
         ∙ ap (λ h. map h jobs) (same_function (λ j. (changed j).number) (λ j. j.number) (λ j. number_case (j.number == number) j))
 
-    named-changed : (jobs : List (Job B)) (name : List ℕ) → job_named (with_job jobs number c) name ≡ option_map changed (job_named jobs name)
+    pub named-changed : (jobs : List (Job B)) (name : List ℕ) → job_named (with_job jobs number c) name ≡ option_map changed (job_named jobs name)
     named-changed jobs name =
         find-map changed (λ j. bytes_eq (job_name j.number) name) jobs
         ∙ ap (λ t. option_map changed (find t jobs)) (same_function (λ j. bytes_eq (job_name (changed j).number) name) (λ j. bytes_eq (job_name j.number) name)

@@ -60,7 +60,7 @@ find_last : {X : Type 0} (t : X → Bool) (xs : List X) (x : X) → t x ≡ true
 find_last t [] x h e = ap (λ b. cond b (Some x) None) h
 find_last t (y ∷ xs) x h e = last_case (find t xs) (find t (xs ++ x ∷ [])) x y (t y) (find_last t xs x h) e
 
-list_all-same : {X : Type 0} (P : X → Type 0) (s t : X → Bool) → ((x : X) → P x → s x ≡ t x) → (xs : List X) → AllByRecursion P xs → list_all s xs ≡ list_all t xs
+pub list_all-same : {X : Type 0} (P : X → Type 0) (s t : X → Bool) → ((x : X) → P x → s x ≡ t x) → (xs : List X) → AllByRecursion P xs → list_all s xs ≡ list_all t xs
 list_all-same P s t each [] a = refl
 list_all-same P s t each (x ∷ xs) a = ap (λ b. b && list_all s xs) (each x a.0) ∙ ap (λ b. t x && b) (list_all-same P s t each xs a.1)
 
@@ -82,7 +82,7 @@ all_numbers f y (x ∷ xs) a = All-cons (λ z. z < y) (f x) (map f xs) (All-head
 
 -- ---- assets
 
-or_none : (a b : Bool) → (a || b) ≡ false → (a ≡ false) × (b ≡ false)
+pub or_none : (a b : Bool) → (a || b) ≡ false → (a ≡ false) × (b ≡ false)
 or_none true b e = cc
 or_none false b e = (refl, e)
 
@@ -107,7 +107,7 @@ module _ {B : Type 0} (rows : Rows B) where
 -- ---- names of jobs
 
 -- a job's name tells its number
-name_injective : (m n : ℕ) → m < 2 ^ 62 → n < 2 ^ 62 → job_name m ≡ job_name n → m ≡ n
+pub name_injective : (m n : ℕ) → m < 2 ^ 62 → n < 2 ^ 62 → job_name m ≡ job_name n → m ≡ n
 name_injective m n small small' same =
     let first : identifier_number 2 (identifier_text 2 m) ≡ Some m = identifier_number-written 2 m (identifier_text 2 m) (record { known = (omega arith, omega arith); small = small; written = refl }) in
     let second : identifier_number 2 (identifier_text 2 n) ≡ Some n = identifier_number-written 2 n (identifier_text 2 n) (record { known = (omega arith, omega arith); small = small'; written = refl }) in

@@ -1,12 +1,14 @@
 -- Each of these commands keeps a state lawful, where it is allowed.
 use Rattle.std.proofs.Common.{◌≡◌, ℕ, ◌+◌, ◌<◌, ◌≤◌, Bool, true, false, cond, List, [], ◌∷◌, Option, Some, None, refl, sym, ap, subst, ◌∙◌, arith}
-use Rattle.std.specs.Prelude.{All, IsSome}
+use Rattle.std.specs.Prelude.{All, IsSome, nat_lt, not}
+use Rattle.std.specs.List.{enumerate_from, list_all, sum_by}
 use Rattle.std.specs.Option.{unwrap_or}
 use Rattle.std.proofs.lemmas.List.Elements.{All-nil, All-cons, All-head, All-tail}
 use Rattle.mt_path.specs.AccountPath.{AccountPath, IsPath, root_of}
 use Rattle.mt_path.specs.declared.area.Area.{Area}
 use Rattle.mt_path.specs.declared.area.Area.TheVariants.{Stor, Public, Jobs}
-use Rattle.mt_types.specs.declared.command.Command.TheVariants.{Put, MakeDirectory, Link, Delete, NewJob, AddInputs, EndInput, Finish, Cancel, NewUpload, AbortUpload}
+use Rattle.mt_types.specs.declared.command.Command.TheVariants.{Put, MakeDirectory, Link, Delete, NewJob, AddInputs, EndInput, Finish, Cancel, Close, NewUpload, PutPart, CommitUpload, AbortUpload}
+use Rattle.mt_types.specs.declared.command.Archive.{Archive}
 use Rattle.mt_types.specs.declared.document.InputLine.{InputLine}
 use Rattle.mt_types.specs.WellMade.{IsDocument}
 use Rattle.mt_types.specs.declared.document.JobDocument.{JobDocument}
@@ -15,19 +17,25 @@ use Rattle.mt_types.specs.declared.object.Entry.{Entry}
 use Rattle.mt_types.specs.declared.object.Entry.TheVariants as entry
 use Rattle.mt_types.specs.declared.object.Field.{Field}
 use Rattle.mt_types.specs.declared.object.Object.{Object}
-use Rattle.mt_types.specs.declared.upload.Stage.TheVariants.{Aborted}
+use Rattle.mt_types.specs.Limits.{is_index}
+use Rattle.mt_types.specs.declared.refusal.Refusal.TheVariants.{UploadPart, UploadState, UploadTooLarge}
+use Rattle.mt_types.specs.declared.upload.Stage.TheVariants.{Aborted, Committed}
+use Rattle.mt_types.specs.declared.upload.Upload.{Upload}
 use Rattle.mt_model.specs.CommandStep.{allowed, change, linked, put_object, step}
-use Rattle.mt_model.specs.JobSteps.{add_inputs_refusal, done_at, finish_refusal, input_refusal, running_refusal, with_end, with_lines}
+use Rattle.mt_model.specs.JobSteps.{add_inputs_refusal, archive_bodies, close, close_refusal, done_at, job_refusal, finish_refusal, input_refusal, running_refusal, with_end, with_lines}
 use Rattle.mt_model.specs.Lawful.{HasFolders, IsBelow, Lawful, LawfulJob, LawfulRows, LawfulUpload}
-use Rattle.mt_types.specs.declared.limits.TheConstants.{MOST_COMMANDS}
+use Rattle.mt_types.specs.declared.limits.TheConstants.{LARGEST_BODY, MOST_COMMANDS}
 use Rattle.mt_model.specs.Names.{number_at}
-use Rattle.mt_model.specs.Rows.{Rows, at, first_rows, is_path, link_refusal, object_at, object_in, with_row, without_row}
-use Rattle.mt_model.specs.State.{State, first_state, with_job}
-use Rattle.mt_model.specs.UploadSteps.{is_jobs}
-use Rattle.mt_model.proofs.LawfulEnds.{KeepsJob-done, LawfulJob-cancelled, LawfulJob-finished}
-use Rattle.mt_model.proofs.LawfulInputs.{KeepsJob-end, KeepsJob-lines, LawfulJob-ended, lines_good, open-allowed}
+use Rattle.mt_model.specs.Rows.{Rows, at, first_refusal, first_rows, is_path, link_refusal, object_at, object_in, put_refusal, refuse_if, with_row, without_row}
+use Rattle.mt_model.specs.State.{State, first_state, job_at, upload_at, with_job}
+use Rattle.mt_model.specs.UploadSteps.{commit_upload, commit_upload_refusal, is_jobs, is_listed, is_open, listed, upload_object, upload_refusal}
+use Rattle.mt_model.proofs.LawfulEnds.{KeepsJob-done, LawfulJob-closed, LawfulJob-cancelled, LawfulJob-finished}
+use Rattle.mt_model.proofs.LawfulClose.{LawfulJobs-closed, LawfulRows-closed}
+use Rattle.mt_model.proofs.Standing.{complete_closed}
+use Rattle.mt_model.proofs.LawfulInputs.{KeepsJob-end, KeepsJob-lines, LawfulJob-ended, lines_good, open-allowed, or_none}
 use Rattle.mt_model.proofs.LawfulJobs.{KeepsJob, LawfulJobs-changed, LawfulJobs-same, found, in_jobs}
 use Rattle.mt_model.proofs.LawfulNewJob.{LawfulJobs-new_job, LawfulRows-new_job, sorted_nil}
+use Rattle.mt_model.proofs.LawfulParts.{LawfulUploads-part, new_part, upload_found}
 use Rattle.mt_model.proofs.LawfulRows.{LawfulRows-later, LawfulRows-with_row, LawfulRows-without_row, jobs-with_row, jobs-without_row}
 use Rattle.mt_model.proofs.LawfulUploads.{LawfulUploads-ended, LawfulUploads-later, LawfulUploads-new}
 use Rattle.mt_model.proofs.RowLaws.{IsTree-first_rows, IsTree-link, IsTree-make_directory, IsTree-put, IsTree-remove, is_path-exact, neither, not_refused}
@@ -159,6 +167,27 @@ module _ {B : Type 0} (size : B → ℕ) (s : State B) (law : Lawful s) where
       (λ j l none same. LawfulJob-cancelled s.count j moment l)
       s.jobs law.jobs.each (found job running_refusal s.jobs law.jobs.rising e))
 
+  -- a job that is closed is as one that is finished or cancelled
+  closed_good : (cancelled : Bool) (moment : ℕ) (j : Job B) → close_refusal cancelled j ≡ None → LawfulJob s.count j → LawfulJob s.count (done_at moment cancelled j)
+  closed_good cancelled moment j none l = LawfulJob-closed s.count j moment cancelled (complete_closed j cancelled none) l
+
+  close_case : (job : ℕ) (cancelled : Bool) (archive : Archive B) (moment : ℕ) → s.count < MOST_COMMANDS → (o : Option (Job B)) → job_at s.jobs job ≡ o → job_refusal o (close_refusal cancelled) ≡ None
+      → All (λ j. j.number ≡ job → LawfulJob s.count (done_at moment cancelled j)) s.jobs → Lawful (record (close s job cancelled archive moment) { count = s.count + 1 })
+  close_case job cancelled archive moment room None at e good = cc
+  close_case job cancelled archive moment room (Some j) at e good = record {
+    rows = LawfulRows-closed s.count s.rows s.jobs law.rows law.jobs room job moment cancelled (archive_bodies archive) refl j at good;
+    jobs = LawfulJobs-closed s.count s.rows s.jobs law.rows law.jobs room job moment cancelled (archive_bodies archive) refl j at good;
+    uploads = LawfulUploads-later s.count (s.count + 1) later s.uploads law.uploads;
+  }
+
+  pub Lawful-close : (job : ℕ) (cancelled : Bool) (archive : Archive B) (moment : ℕ) → s.count < MOST_COMMANDS → allowed size s (Close job cancelled archive moment) ≡ None → Lawful (step s (Close job cancelled archive moment))
+  unfolding allowed change step
+  Lawful-close job cancelled archive moment room e =
+      close_case job cancelled archive moment room (job_at s.jobs job) refl e
+      (both (LawfulJob s.count) (λ j. j.number ≡ job → close_refusal cancelled j ≡ None) (λ j. j.number ≡ job → LawfulJob s.count (done_at moment cancelled j))
+      (λ j l none same. closed_good cancelled moment j (none same) l)
+      s.jobs law.jobs.each (found job (close_refusal cancelled) s.jobs law.jobs.rising e))
+
   pub Lawful-new_upload : (path : AccountPath) (content_type : List ℕ) (moment : ℕ) → IsPath path → allowed size s (NewUpload path content_type moment) ≡ None → Lawful (step s (NewUpload path content_type moment))
   unfolding allowed change step
   Lawful-new_upload path content_type moment is_one e = record {
@@ -174,6 +203,41 @@ module _ {B : Type 0} (size : B → ℕ) (s : State B) (law : Lawful s) where
     jobs = LawfulJobs-same s.count (s.count + 1) later s.rows s.rows s.jobs (λ names. refl) law.jobs;
     uploads = LawfulUploads-later s.count (s.count + 1) later _ (LawfulUploads-ended s.count upload Aborted s.uploads law.uploads);
   }
+
+  pub Lawful-put_part : (upload index : ℕ) (body : B) (moment : ℕ) → is_index index ≡ true → Lawful (step s (PutPart upload index body moment))
+  unfolding change step
+  Lawful-put_part upload index body moment is = record {
+    rows = rows_later;
+    jobs = LawfulJobs-same s.count (s.count + 1) later s.rows s.rows s.jobs (λ names. refl) law.jobs;
+    uploads = LawfulUploads-part (s.count + 1) upload (record { index = index; number = number_at s.count 0; body = body })
+        (new_part s.count index body (number_at s.count 0) (omega arith) is) s.uploads (LawfulUploads-later s.count (s.count + 1) later s.uploads law.uploads);
+  }
+
+  commit_upload_case : (parts : List ℕ) (body : B) (moment : ℕ) (o : Option (Upload B)) → ((u : Upload B) → o ≡ Some u → LawfulUpload s.count u) → upload_refusal o (commit_upload_refusal size s.rows parts) ≡ None
+      → Lawful (record (commit_upload s o body moment) { count = s.count + 1 })
+  commit_upload_case parts body moment None good e = cc
+  commit_upload_case parts body moment (Some u) good e =
+      let up : LawfulUpload s.count u = good u refl in
+      let open_yet = neither (refuse_if (not (is_open u.stage)) UploadState) (commit_upload_refusal size s.rows parts u) e in
+      let there = neither (refuse_if (not (list_all (is_listed u.parts) (enumerate_from 0 parts))) UploadPart)
+          (first_refusal (refuse_if (nat_lt LARGEST_BODY (sum_by (λ p. size p.body) (listed u.parts parts))) UploadTooLarge) (put_refusal s.rows u.path)) open_yet.1 in
+      let fits_body = neither (refuse_if (nat_lt LARGEST_BODY (sum_by (λ p. size p.body) (listed u.parts parts))) UploadTooLarge) (put_refusal s.rows u.path) there.1 in
+      let free = fits_body.1 in
+      let outside : is_jobs u.path.area ≡ false = (or_none _ _ up.place).0 in
+      let x : Object B = upload_object (number_at s.count 0) u body moment in
+      let base = rows_changed (with_row s.rows u.path (entry.Object x))
+          (LawfulRows-with_row (s.count + 1) s.rows rows_later u.path (entry.Object x) up.path (IsTree-put s.rows u.path x law.rows.tree free) (λ o is. new_number x o refl is))
+          (jobs-with_row s.rows u.path (entry.Object x) outside) in
+      record {
+        rows = base.rows;
+        jobs = base.jobs;
+        uploads = LawfulUploads-ended (s.count + 1) u.number Committed s.uploads base.uploads;
+      }
+
+  pub Lawful-commit_upload : (upload : ℕ) (parts : List ℕ) (body : B) (moment : ℕ) → allowed size s (CommitUpload upload parts body moment) ≡ None → Lawful (step s (CommitUpload upload parts body moment))
+  unfolding allowed change step
+  Lawful-commit_upload upload parts body moment e =
+      commit_upload_case parts body moment (upload_at s.uploads upload) (λ u at. upload_found (LawfulUpload s.count) upload s.uploads u law.uploads.each at) e
 
 -- ---- the first state
 

@@ -18,6 +18,8 @@ pub mod LawfulInputs
 pub mod LawfulNewJob
 pub mod LawfulEnds
 pub mod LawfulUploads
+pub mod LawfulParts
+pub mod LawfulClose
 pub mod LawfulSteps
 pub mod Entry
 pub mod Standing

@@ -58,7 +58,7 @@ unbarred b (inl e) = ap is_barred e
 unbarred b (inr (inl r)) = in_range b (omega arith) (omega arith)
 unbarred b (inr (inr r)) = in_range b (omega arith) (omega arith)
 
-name_is_component : (number : ℕ) → IsComponent (job_name number)
+pub name_is_component : (number : ℕ) → IsComponent (job_name number)
 name_is_component number =
     let long : length (job_name number) ≡ 36 = length-identifier_text 2 number in
     record {

@@ -1,9 +1,11 @@
 //! Laws of the definitions: what holds over references holds over the bytes that they stand for, and each allowed
 //! command keeps a state lawful.
-ghost use Rattle.std.specs.Prelude.{◌≡◌, ◌++◌, ℕ, List, Option};
+ghost use Rattle.std.specs.Prelude.{◌≡◌, ◌++◌, ℕ, Bool, List, Option, true};
 ghost use Rattle.mt_path.specs.AccountPath.{AccountPath, IsPath};
-ghost use Rattle.mt_types.specs.declared.command.Command.TheVariants.{Put, MakeDirectory, Link, Delete, NewJob, AddInputs, EndInput, Finish, Cancel, NewUpload, AbortUpload};
+ghost use Rattle.mt_types.specs.declared.command.Command.TheVariants.{Put, MakeDirectory, Link, Delete, NewJob, AddInputs, EndInput, Finish, Cancel, Close, NewUpload, PutPart, CommitUpload, AbortUpload};
+ghost use Rattle.mt_types.specs.Limits.{is_index};
 ghost use Rattle.mt_types.specs.declared.body.Body.{Body};
+ghost use Rattle.mt_types.specs.declared.command.Archive.{Archive};
 ghost use Rattle.mt_types.specs.WellMade.{IsDocument};
 ghost use Rattle.mt_types.specs.declared.document.InputLine.{InputLine};
 ghost use Rattle.mt_types.specs.declared.document.JobDocument.{JobDocument};
@@ -75,7 +77,10 @@ pub fn commands_keep_lawful()
     ensures end_input { (job moment : ℕ) → KeepsLawful (EndInput job moment) }
     ensures finish { (job moment : ℕ) → KeepsLawful (Finish job moment) }
     ensures cancel { (job moment : ℕ) → KeepsLawful (Cancel job moment) }
+    ensures close { (job : ℕ) (cancelled : Bool) (archive : Archive Body) (moment : ℕ) → KeepsLawful (Close job cancelled archive moment) }
     ensures new_upload { (path : AccountPath) (content_type : List ℕ) (moment : ℕ) → IsPath path → KeepsLawful (NewUpload path content_type moment) }
+    ensures put_part { (upload index : ℕ) (body : Body) (moment : ℕ) → is_index index ≡ true → KeepsLawful (PutPart upload index body moment) }
+    ensures commit_upload { (upload : ℕ) (parts : List ℕ) (body : Body) (moment : ℕ) → KeepsLawful (CommitUpload upload parts body moment) }
     ensures abort_upload { (upload moment : ℕ) → KeepsLawful (AbortUpload upload moment) }
 {}
 

@@ -1,6 +1,6 @@
 use Rattle.std.proofs.Common.{ℕ}
 use Rattle.mt_types.specs.declared.body.Body.{Body}
-use Rattle.mt_model.proofs.LawfulSteps.{Lawful-abort_upload, Lawful-add_inputs, Lawful-cancel, Lawful-delete, Lawful-end_input, Lawful-finish, Lawful-link, Lawful-make_directory, Lawful-new_job, Lawful-new_upload, Lawful-put}
+use Rattle.mt_model.proofs.LawfulSteps.{Lawful-abort_upload, Lawful-add_inputs, Lawful-cancel, Lawful-close, Lawful-delete, Lawful-end_input, Lawful-finish, Lawful-link, Lawful-make_directory, Lawful-new_job, Lawful-new_upload, Lawful-commit_upload, Lawful-put, Lawful-put_part}
 use Rattle.mt_model.proofs.laws.commands_keep_lawful.Goals as goal
 
 abbrev size : Body → ℕ
@@ -17,6 +17,9 @@ returns c = record {
   end_input = λ job moment s law room e. Lawful-end_input size s law job moment e;
   finish = λ job moment s law room e. Lawful-finish size s law job moment e;
   cancel = λ job moment s law room e. Lawful-cancel size s law job moment e;
+  close = λ job cancelled archive moment s law room e. Lawful-close size s law job cancelled archive moment room e;
   new_upload = λ path content_type moment is s law room e. Lawful-new_upload size s law path content_type moment is e;
+  put_part = λ upload index body moment is s law room e. Lawful-put_part size s law upload index body moment is;
+  commit_upload = λ upload parts body moment s law room e. Lawful-commit_upload size s law upload parts body moment e;
   abort_upload = λ upload moment s law room e. Lawful-abort_upload size s law upload moment;
 }
