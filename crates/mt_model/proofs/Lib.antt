@@ -28,3 +28,5 @@ pub mod Closed
 pub mod Same
 pub mod Stood
 pub mod Finished
+pub mod Shares
+pub mod HonestWorked

@@ -1,6 +1,7 @@
 -- The laws of the definitions, as they are told to the layers above: of bodies that are references into a log, and
 -- of the bytes that a function reads for each.
-use Rattle.std.specs.Prelude.{◌≡◌, ℕ, ◌<◌, List, map, length, None, ◌++◌}
+use Rattle.std.specs.Prelude.{◌≡◌, ℕ, ◌<◌, nat_lt, cond, List, map, length, None, ◌++◌}
+use Rattle.std.specs.List.{count_by, range_with_len}
 use Rattle.mt_path.specs.AccountPath.{AccountPath}
 use Rattle.mt_types.specs.Values.{command_with, fate_with, item_with, job_with, trace_entry_with}
 use Rattle.mt_types.specs.declared.body.Body.{Body}
@@ -23,7 +24,7 @@ use Rattle.mt_model.specs.Meaning.{PhasesMean}
 use Rattle.mt_model.specs.Resolve.{Committing, resolve}
 use Rattle.mt_model.specs.Rows.{Rows}
 use Rattle.mt_model.specs.State.{State}
-use Rattle.mt_model.specs.Tasks.{input_of, ready, run_of, share, waits_finish}
+use Rattle.mt_model.specs.Tasks.{holds_place, input_of, ready, run_of, share, waits_finish}
 
 -- what is read for a body
 abbrev pub Reading : Type 0
@@ -68,6 +69,10 @@ FeedIsRead = (read : Reading) (j : Job Body) (phase : ℕ) → feed (job_with re
 -- a reducer reads the same share
 abbrev pub ShareIsRead : Type 0
 ShareIsRead = (read : Reading) (items : List (Item Body)) (count reducer : ℕ) → share (map (item_with read) items) count reducer ≡ map (item_with read) (share items count reducer)
+
+-- each place of a feed lies in the share of one reducer, and in that one alone; no other place lies in any
+abbrev pub IsSharedOnce : Type 0
+IsSharedOnce = (items : List (Item Body)) (count : ℕ) → 0 < count → (place : ℕ) → count_by (holds_place items count place) (range_with_len 0 count) ≡ cond (nat_lt place (length items)) 1 0
 
 -- the same tasks are ready, in the same order
 abbrev pub ReadyIsRead : Type 0

@@ -30,9 +30,17 @@ module _ {B : Type 0} where
   abbrev pub reducer_of : ℕ × Item B → ℕ
   reducer_of p = unwrap_or p.1.reducer p.0
 
-  -- the items that one of so many reducers reads, in order
+  -- the places that one of so many reducers reads, each with its item, in order
+  abbrev pub share_places : List (Item B) → ℕ → ℕ → List (ℕ × Item B)
+  share_places items count reducer = filter (λ p. reducer_of p % count == reducer) (enumerate_from 0 items)
+
+  -- the items that it reads
   abbrev pub share : List (Item B) → ℕ → ℕ → List (Item B)
-  share items count reducer = map (λ p. p.1) (filter (λ p. reducer_of p % count == reducer) (enumerate_from 0 items))
+  share items count reducer = map (λ p. p.1) (share_places items count reducer)
+
+  -- a reducer reads this place
+  abbrev pub holds_place : List (Item B) → ℕ → ℕ → ℕ → Bool
+  holds_place items count place reducer = list_any (λ p. p.0 == place) (share_places items count reducer)
 
   -- the number of tasks of a phase over a feed: one an item, or one a reducer
   abbrev pub task_count : PhaseKind → List (Item B) → ℕ

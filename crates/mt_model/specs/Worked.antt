@@ -1,7 +1,7 @@
 -- Worked examples: short histories over bytes, at moment 0.
-use Rattle.std.specs.Prelude.{ℕ, List, [], ◌∷◌, ◌++◌, codes, Option, None, map}
+use Rattle.std.specs.Prelude.{◌≡◌, ℕ, false, List, [], ◌∷◌, ◌++◌, codes, Option, None, map}
 use Rattle.std.specs.List.{last_or}
-use Rattle.std.specs.Option.{option_and_then, option_map}
+use Rattle.std.specs.Option.{option_and_then, option_map, unwrap_or}
 use Rattle.mt_path.specs.AccountPath.{AccountPath}
 use Rattle.mt_path.specs.declared.area.Area.TheVariants.{Stor, Jobs}
 use Rattle.mt_types.specs.declared.command.Command.{Command}
@@ -11,21 +11,23 @@ use Rattle.mt_types.specs.declared.document.Phase.{Phase}
 use Rattle.mt_types.specs.declared.document.PhaseKind.{PhaseKind}
 use Rattle.mt_types.specs.declared.document.PhaseKind.TheVariants.{Map, Reduce}
 use Rattle.mt_types.specs.declared.job.Item.{Item}
+use Rattle.mt_types.specs.declared.job.Job.{Job}
 use Rattle.mt_types.specs.declared.task.Fate.{Fate}
 use Rattle.mt_types.specs.declared.task.Fate.TheVariants.{Good}
+use Rattle.mt_types.specs.declared.task.Made.{Made}
+use Rattle.mt_types.specs.declared.task.Made.TheVariants.{Whole, TooLarge}
+use Rattle.mt_types.specs.declared.task.Raw.{Raw}
+use Rattle.mt_types.specs.declared.task.Run.{Run}
 use Rattle.mt_types.specs.declared.task.TaskRecord.{TaskRecord}
 use Rattle.mt_types.specs.declared.task.TaskRecord.TheVariants.{Emit}
 use Rattle.mt_types.specs.declared.job.Outcome.{Outcome}
 use Rattle.mt_model.specs.CommandStep.{replay}
 use Rattle.mt_model.specs.Feed.{feed}
+use Rattle.mt_model.specs.Honest.{Bytes}
 use Rattle.mt_model.specs.Listing.{name_of}
 use Rattle.mt_model.specs.Rows.{Rows, object_at}
 use Rattle.mt_model.specs.State.{State, first_state, job_at}
 use Rattle.mt_model.specs.Tasks.{input_of}
-
--- a body is its bytes here
-abbrev pub Bytes : Type 0
-Bytes = List ℕ
 
 -- a path of the area stor
 abbrev pub stor : List Bytes → AccountPath
@@ -171,3 +173,26 @@ abbrev pub asked : List (TaskRecord Bytes) → List (Command Bytes)
 asked records =
     put (stor (codes "a" ∷ [])) (codes "hello") ∷ job_of (phase Map (codes "cat") ∷ []) ∷ post 0x1000 (stor (codes "a" ∷ []) ∷ [])
     ∷ commit 0x1000 0 0 (Good records) ∷ []
+
+-- ---- children that give what they read
+
+-- a child that writes its input to standard output
+abbrev pub cat_gives : Run → Bytes → Raw → Type 0
+cat_gives run input raw = raw ≡ record { status = 0; stderr = []; made = Whole input [] }
+
+-- what a child wrote to standard output
+abbrev pub out_of : Made → Bytes
+out_of (Whole out files) = out
+out_of (TooLarge total) = []
+
+-- its standard output is its one output
+abbrev pub judged : Raw → Fate Bytes
+judged raw = wrote (out_of raw.made)
+
+-- a job that is nothing
+abbrev pub no_job : Job Bytes
+no_job = record { number = 0; document = record { name = []; phases = [] }; assets = []; inputs = []; missing = []; ended = false; cancelled = false; created = 0; done = None; trace = [] }
+
+-- the job of a map phase, after a history
+abbrev pub map_job_after : List (Command Bytes) → Job Bytes
+map_job_after h = unwrap_or (job_at (after h).jobs 0x1000) no_job

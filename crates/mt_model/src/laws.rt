@@ -18,7 +18,7 @@ ghost use Rattle.mt_model.specs.CommandStep.{replay};
 ghost use Rattle.mt_model.specs.Finished.{FinishedJobsMean};
 ghost use Rattle.mt_model.specs.Honest.{Bytes, HonestFrom};
 ghost use Rattle.mt_model.specs.State.{State, first_state};
-ghost use Rattle.mt_model.specs.Laws.{ReplayIsRead, AllowedIsRead, ListingIsRead, SizeIsRead, FeedIsRead, ShareIsRead, ReadyIsRead, FinishIsRead, RunIsRead, InputIsRead, ResolveIsRead, MeaningIsRead, StatesAgree, KeepsLawful, AllowedOfHeld, ReplayGoesOn, RowsKeepLimits};
+ghost use Rattle.mt_model.specs.Laws.{ReplayIsRead, AllowedIsRead, ListingIsRead, SizeIsRead, FeedIsRead, ShareIsRead, ReadyIsRead, FinishIsRead, RunIsRead, InputIsRead, ResolveIsRead, MeaningIsRead, StatesAgree, KeepsLawful, AllowedOfHeld, IsSharedOnce, ReplayGoesOn, RowsKeepLimits};
 
 /// A history over references does what the same history over bytes does, and is refused for the same causes.
 pub fn history_is_read()
@@ -48,6 +48,11 @@ pub fn job_is_read()
     ensures input { InputIsRead }
     ensures resolve { ResolveIsRead }
     ensures meaning { MeaningIsRead }
+{}
+
+/// Each place of a feed lies in exactly one reducer's share.
+pub fn places_are_shared_once()
+    ensures { IsSharedOnce }
 {}
 
 /// States whose bodies read the same are the same.

@@ -1,10 +1,11 @@
 //! Worked examples, computed from the definitions. The names and numbers are those that a client sees.
-ghost use Rattle.std.specs.Prelude.{◌≡◌, ℕ, List, [], ◌∷◌, ◌++◌, codes, length, map, Bool, true, false, Option, Some, None};
+ghost use Rattle.std.specs.Prelude.{◌≡◌, ℕ, List, [], ◌∷◌, ◌++◌, codes, length, map, reverse, Bool, true, false, Option, Some, None};
 ghost use Rattle.std.specs.Option.{option_map};
 ghost use Rattle.mt_path.specs.AccountPath.{AccountPath};
 ghost use Rattle.mt_types.specs.declared.command.Command.TheVariants.{MakeDirectory, Link, Delete, EndInput, Cancel};
 ghost use Rattle.mt_types.specs.declared.document.InputLine.TheVariants.{Named};
 ghost use Rattle.mt_types.specs.declared.document.PhaseKind.TheVariants.{Map};
+ghost use Rattle.mt_types.specs.declared.job.Job.{Job};
 ghost use Rattle.mt_types.specs.declared.job.Outcome.TheVariants.{Bad};
 ghost use Rattle.mt_types.specs.declared.refusal.Refusal.TheVariants.{RootDirectory, DirectoryDoesNotExist, ParentNotDirectory, DirectoryOperation, EntityExists, NotFound, DirectoryNotEmpty, LinkNotFound, LinkNotObject, JobState, NotATask, AlreadyCommitted, NotComplete};
 ghost use Rattle.mt_types.specs.declared.task.TaskFailure.TheVariants.{TaskPlaceRefused, TaskObjectMissing};
@@ -14,7 +15,11 @@ ghost use Rattle.mt_model.specs.Rows.{at, is_directory};
 ghost use Rattle.mt_model.specs.Listing.{listing, result_set_size};
 ghost use Rattle.mt_model.specs.State.{job_at};
 ghost use Rattle.mt_model.specs.Tasks.{ready, task_of, waits_finish};
-ghost use Rattle.mt_model.specs.Worked.{Bytes, after, asked, begun, body_in, commit, complete, counted, counting, emptied, fed, finished, halfway, job_of, jobs, last_outcome, line, linked, mapped, names_in, nested, number_in, phase, post, put, reads, reduced, stor, three, wrote};
+ghost use Rattle.mt_model.specs.Feed.{feed};
+ghost use Rattle.mt_model.specs.Finished.{is_finished, live_out, outputs_of, recorded};
+ghost use Rattle.mt_model.specs.Honest.{Bytes, Honest};
+ghost use Rattle.mt_model.specs.Meaning.{Means, PhasesMean};
+ghost use Rattle.mt_model.specs.Worked.{cat_gives, judged, map_job_after, after, asked, begun, body_in, commit, complete, counted, counting, emptied, fed, finished, halfway, job_of, jobs, last_outcome, line, linked, mapped, names_in, nested, number_in, phase, post, put, reads, reduced, stor, three, wrote};
 
 /// What refuses a put of an object or of a directory.
 pub fn directory_refusals()
@@ -135,4 +140,17 @@ pub fn cancelled_job()
     ensures again { allowed length (after (begun ++ Cancel 0x1000 0 ∷ [])) (Cancel 0x1000 0) ≡ Some JobState }
     ensures commits { allowed length (after (begun ++ Cancel 0x1000 0 ∷ [])) (commit 0x1000 0 0 (wrote [])) ≡ Some JobState }
     ensures no_task { option_map ready (job_at (after (begun ++ Cancel 0x1000 0 ∷ [])).jobs 0x1000) ≡ Some [] }
+{}
+
+/// The history of the finished map job is honest where children give what they read, its listing is the two names, and
+/// the other order of its outputs is not what its phases mean. A fate that no child gave is not honest.
+pub fn honest_map_job()
+    ensures honest { Honest (codes "l") cat_gives judged finished }
+    ensures invented { Honest (codes "l") cat_gives judged (begun ++ commit 0x1000 0 0 (wrote (codes "bye")) ∷ []) → ⊥ }
+    ensures done { map is_finished (map map_job_after (complete ∷ finished ∷ (begun ++ Cancel 0x1000 0 ∷ []) ∷ [])) ≡ false ∷ true ∷ false ∷ [] }
+    ensures listing { live_out (codes "l") (map_job_after finished) ≡
+        line (codes "/l/jobs/00000002-0000-8000-8000-000000001000/stor/a.0.00000003-0000-8000-8000-000000003000")
+        ++ line (codes "/l/jobs/00000002-0000-8000-8000-000000001000/stor/a.0.00000003-0000-8000-8000-000000005000") }
+    ensures other_order { let job : Job Bytes = map_job_after finished in
+        PhasesMean job.document.phases job.inputs (recorded job) (reverse (outputs_of job)) → ⊥ }
 {}
