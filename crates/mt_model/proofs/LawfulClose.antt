@@ -57,7 +57,7 @@ archive_paths number =
     (in_folder number (codes "job.json") (omega arith) (omega arith) refl refl,
     (in_folder number (codes "out.txt") (omega arith) (omega arith) refl refl, tt)))))
 
-no_stor : AllByRecursion (λ (a : List ℕ × List ℕ). bytes_eq a.0 (codes "stor") ≡ false) archive_names
+pub no_stor : AllByRecursion (λ (a : List ℕ × List ℕ). bytes_eq a.0 (codes "stor") ≡ false) archive_names
 no_stor = (refl, (refl, (refl, (refl, (refl, tt)))))
 
 each_from : {X : Type 0} (P Q : X → Type 0) → ((x : X) → P x → Q x) → (xs : List X) → AllByRecursion P xs → AllByRecursion Q xs
@@ -72,11 +72,11 @@ list_all_true : {X : Type 0} (t : X → Bool) (xs : List X) → AllByRecursion (
 list_all_true t [] all = refl
 list_all_true t (x ∷ xs) all = ap (λ b. b && list_all t xs) all.0 ∙ list_all_true t xs all.1
 
-or_left : (a b : Bool) → a ≡ true → (a || b) ≡ true
+pub or_left : (a b : Bool) → a ≡ true → (a || b) ≡ true
 or_left true b e = refl
 or_left false b e = cc
 
-or_right : (a b : Bool) → b ≡ true → (a || b) ≡ true
+pub or_right : (a b : Bool) → b ≡ true → (a || b) ≡ true
 or_right true b e = refl
 or_right false b e = e
 
@@ -85,11 +85,11 @@ find_same P s t each [] a = refl
 find_same P s t each (x ∷ xs) a =
     ap (λ b. cond b (Some x) (find s xs)) (each x (All-head P x xs a)) ∙ ap (λ o. cond (t x) (Some x) o) (find_same P s t each xs (All-tail P x xs a))
 
-abbrev head : List (List ℕ) → List ℕ
+abbrev pub head : List (List ℕ) → List ℕ
 head [] = []
 head (x ∷ xs) = x
 
-abbrev second : List (List ℕ) → List ℕ
+abbrev pub second : List (List ℕ) → List ℕ
 second [] = []
 second (x ∷ []) = []
 second (x ∷ y ∷ zs) = y
@@ -214,7 +214,7 @@ module _ {B : Type 0} (count : ℕ) (rows : Rows B) (jobs : List (Job B)) (law :
 
   -- ---- the job by its name
 
-  job_found : (P : Job B → Type 0) (xs : List (Job B)) → All P xs → job_at xs n ≡ Some j → P j
+  pub job_found : (P : Job B → Type 0) (xs : List (Job B)) → All P xs → job_at xs n ≡ Some j → P j
   job_found P [] a is = cc
   job_found P (x ∷ xs) a is = by (x.number == n) is (job_found P xs (All-tail P x xs a))
     where
@@ -235,7 +235,7 @@ module _ {B : Type 0} (count : ℕ) (rows : Rows B) (jobs : List (Job B)) (law :
   name_case x l false true t u = absurd (true≢false (sym ((bytes_eq-Decides (job_name x.number) (job_name n)).1 (ap job_name (eqb-true x.number n u))) ∙ t))
   name_case x l false false t u = refl
 
-  named : job_named jobs (job_name n) ≡ Some j
+  pub named : job_named jobs (job_name n) ≡ Some j
   named = find_same (LawfulJob count) (λ x. bytes_eq (job_name x.number) (job_name n)) (λ x. x.number == n)
       (λ x l. name_case x l (bytes_eq (job_name x.number) (job_name n)) (x.number == n) refl refl) jobs lawful.each ∙ found_j
 

@@ -30,3 +30,4 @@ pub mod Stood
 pub mod Finished
 pub mod Shares
 pub mod HonestWorked
+pub mod LawfulPuts

@@ -1,6 +1,7 @@
 use Rattle.std.proofs.Common.{ℕ}
 use Rattle.mt_types.specs.declared.body.Body.{Body}
 use Rattle.mt_model.proofs.LawfulSteps.{Lawful-abort_upload, Lawful-add_inputs, Lawful-cancel, Lawful-close, Lawful-delete, Lawful-end_input, Lawful-finish, Lawful-link, Lawful-make_directory, Lawful-new_job, Lawful-new_upload, Lawful-commit_upload, Lawful-put, Lawful-put_part}
+use Rattle.mt_model.proofs.LawfulPuts.{Whole}
 use Rattle.mt_model.proofs.laws.commands_keep_lawful.Goals as goal
 
 abbrev size : Body → ℕ
