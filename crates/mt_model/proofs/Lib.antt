@@ -31,3 +31,5 @@ pub mod Finished
 pub mod Shares
 pub mod HonestWorked
 pub mod LawfulPuts
+pub mod LawfulNames
+pub mod LawfulCommit

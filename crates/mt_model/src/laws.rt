@@ -2,11 +2,11 @@
 //! command keeps a state lawful.
 ghost use Rattle.std.specs.Prelude.{◌≡◌, ◌++◌, ℕ, Bool, List, Option, true};
 ghost use Rattle.mt_path.specs.AccountPath.{AccountPath, IsPath};
-ghost use Rattle.mt_types.specs.declared.command.Command.TheVariants.{Put, MakeDirectory, Link, Delete, NewJob, AddInputs, EndInput, Finish, Cancel, Close, NewUpload, PutPart, CommitUpload, AbortUpload};
+ghost use Rattle.mt_types.specs.declared.command.Command.TheVariants.{Put, MakeDirectory, Link, Delete, NewJob, AddInputs, EndInput, Commit, Finish, Cancel, Close, NewUpload, PutPart, CommitUpload, AbortUpload};
 ghost use Rattle.mt_types.specs.Limits.{is_index};
 ghost use Rattle.mt_types.specs.declared.body.Body.{Body};
 ghost use Rattle.mt_types.specs.declared.command.Archive.{Archive};
-ghost use Rattle.mt_types.specs.WellMade.{IsDocument};
+ghost use Rattle.mt_types.specs.WellMade.{IsDocument, IsWellMadeFate};
 ghost use Rattle.mt_types.specs.declared.document.InputLine.{InputLine};
 ghost use Rattle.mt_types.specs.declared.document.JobDocument.{JobDocument};
 ghost use Rattle.mt_types.specs.declared.object.Field.{Field};
@@ -80,6 +80,7 @@ pub fn commands_keep_lawful()
     ensures new_job { (document : JobDocument) (moment : ℕ) → IsDocument document → KeepsLawful (NewJob document moment) }
     ensures add_inputs { (job : ℕ) (lines : List InputLine) (moment : ℕ) → KeepsLawful (AddInputs job lines moment) }
     ensures end_input { (job moment : ℕ) → KeepsLawful (EndInput job moment) }
+    ensures commit { (job phase place : ℕ) (fate : Fate Body) (moment : ℕ) → IsWellMadeFate fate → KeepsLawful (Commit job phase place fate moment) }
     ensures finish { (job moment : ℕ) → KeepsLawful (Finish job moment) }
     ensures cancel { (job moment : ℕ) → KeepsLawful (Cancel job moment) }
     ensures close { (job : ℕ) (cancelled : Bool) (archive : Archive Body) (moment : ℕ) → KeepsLawful (Close job cancelled archive moment) }
