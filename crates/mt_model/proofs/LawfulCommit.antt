@@ -1,10 +1,10 @@
 -- A commit keeps a state lawful: what its records make belongs where it stands.
 use Rattle.std.proofs.Common.{◌≡◌, ℕ, ◌+◌, ◌-◌, ◌==◌, ◌^◌, ◌<◌, ◌≤◌, Bool, true, false, cond, not, ◌&&◌, ◌||◌, nat_lt, List, [], ◌∷◌, ◌++◌, length, map, Option, Some, None, refl, sym, ap, subst, ◌∙◌, arith, true≢false, codes, bytes_eq, zero, suc, inl, inr, drop, eq-eqb}
-use Rattle.std.specs.Prelude.{All, ⊤, Result, Ok, Err, is_some, IfSome}
+use Rattle.std.specs.Prelude.{All, ⊤, Result, Ok, Err, is_some}
 use Rattle.std.specs.List.{AllByRecursion, list_any, range_with_len, slice_get}
 use Rattle.std.specs.Option.{option_map, option_map_or, unwrap_or}
 use Rattle.std.proofs.lemmas.Bool.{ltb-true}
-use Rattle.std.proofs.lemmas.List.Elements.{All-nil, All-cons, All-head, All-tail, All-push, All-append}
+use Rattle.std.proofs.lemmas.List.Elements.{All-nil, All-head, All-tail, All-push, All-append}
 use Rattle.std.proofs.lemmas.Slice.Eq.{bytes_eq-Decides}
 use Rattle.std.proofs.lemmas.Option.{slice_get_within}
 use Rattle.mt_ident.specs.Identifiers.{identifier_number, identifier_text}
@@ -30,8 +30,8 @@ use Rattle.mt_types.specs.declared.task.TaskRecord.{TaskRecord}
 use Rattle.mt_types.specs.declared.task.TaskRecord.TheVariants.{Emit, Keep, Ref}
 use Rattle.mt_model.specs.Feed.{entries_of, feed, items_in, items_of}
 use Rattle.mt_model.specs.JobSteps.{commit_refusal, with_entry}
-use Rattle.mt_model.specs.Lawful.{HasFolders, HasRoot, IsBelow, LawfulJob, fits_below, fits_in_folder, is_output, job_named}
-use Rattle.mt_model.specs.Names.{anonymous_place, ends_in_output, is_task_place, job_name, number_at, output_prefix, paths_above}
+use Rattle.mt_model.specs.Lawful.{HasFolders, HasRoot, IsBelow, LawfulJob, fits_below, is_output, job_named}
+use Rattle.mt_model.specs.Names.{ends_in_output, is_task_place, job_name, output_prefix, paths_above}
 use Rattle.mt_model.specs.Resolve.{Committing, Resolved, Taken, and_then, can_hold_object, fresh_place, is_object_at, kept, next_number, resolve, resolved, take_placed, take_record, take_records, take_reference, task_object, with_output}
 use Rattle.mt_model.specs.Rows.{Rows, at, is_directory, object_at, object_in}
 use Rattle.mt_model.specs.Tasks.{is_running, is_task_of, may_begin, may_run, root_at, task_count}

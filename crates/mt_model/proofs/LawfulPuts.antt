@@ -1,13 +1,13 @@
 -- What a task puts keeps the rows and the jobs lawful, where it belongs there.
-use Rattle.std.proofs.Common.{◌≡◌, ℕ, ◌+◌, ◌-◌, ◌<◌, ◌≤◌, Bool, true, false, cond, not, ◌&&◌, ◌||◌, nat_lt, List, [], ◌∷◌, length, map, take, Option, Some, None, refl, sym, ap, subst, ◌∙◌, arith, true≢false, codes, bytes_eq, ◌⊎◌, inl, inr, zero, suc}
-use Rattle.std.specs.Prelude.{All, is_some, IsSome}
+use Rattle.std.proofs.Common.{◌≡◌, ℕ, ◌+◌, ◌-◌, ◌<◌, ◌≤◌, Bool, true, false, cond, not, ◌||◌, nat_lt, List, [], ◌∷◌, length, map, take, Option, Some, None, refl, sym, ap, subst, ◌∙◌, arith, true≢false, codes, bytes_eq, ◌⊎◌, inl, inr, zero, suc}
+use Rattle.std.specs.Prelude.{is_some}
 use Rattle.std.specs.List.{fold, list_all, range_with_len}
 use Rattle.std.specs.Option.{unwrap_or}
 use Rattle.std.proofs.lemmas.Bool.{cases_lt}
 use Rattle.std.proofs.lemmas.List.{length-take-le}
 use Rattle.std.proofs.lemmas.List.Elements.{All-weaker}
 use Rattle.mt_path.proofs.Fronts.{IsPath-take}
-use Rattle.mt_path.specs.AccountPath.{AccountPath, IsPath, parent_of, root_of}
+use Rattle.mt_path.specs.AccountPath.{AccountPath, IsPath, parent_of}
 use Rattle.mt_path.specs.declared.area.Area.TheVariants.{Jobs}
 use Rattle.mt_types.specs.declared.job.Job.{Job}
 use Rattle.mt_types.specs.declared.object.Entry.{Entry}
@@ -15,7 +15,7 @@ use Rattle.mt_types.specs.declared.object.Entry.TheVariants as entry
 use Rattle.mt_types.specs.declared.object.Object.{Object}
 use Rattle.mt_model.specs.JobSteps.{archive_names}
 use Rattle.mt_model.specs.Lawful.{HasFolders, IsBelow, LawfulJobs, LawfulRows, fits_below, job_named}
-use Rattle.mt_model.specs.Names.{in_job_folder, paths_above}
+use Rattle.mt_model.specs.Names.{in_job_folder}
 use Rattle.mt_model.specs.Resolve.{is_object_at, with_directory, with_parents}
 use Rattle.mt_model.specs.Rows.{Rows, IsTree, at, is_directory, is_path, object_in, with_row}
 use Rattle.mt_model.specs.UploadSteps.{is_jobs}

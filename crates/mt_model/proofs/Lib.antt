@@ -33,3 +33,4 @@ pub mod HonestWorked
 pub mod LawfulPuts
 pub mod LawfulNames
 pub mod LawfulCommit
+pub mod LawfulHistories
