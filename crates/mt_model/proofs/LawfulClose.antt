@@ -50,12 +50,19 @@ in_folder number name least most ascii clear =
     }
 
 archive_paths : (number : ℕ) → AllByRecursion (λ (a : List ℕ × List ℕ). IsPath (in_job_folder number a.0)) archive_names
-archive_paths number =
-    (in_folder number (codes "err.txt") (omega arith) (omega arith) refl refl,
-    (in_folder number (codes "fail.txt") (omega arith) (omega arith) refl refl,
-    (in_folder number (codes "in.txt") (omega arith) (omega arith) refl refl,
-    (in_folder number (codes "job.json") (omega arith) (omega arith) refl refl,
-    (in_folder number (codes "out.txt") (omega arith) (omega arith) refl refl, tt)))))
+archive_paths number = (
+  in_folder number (codes "err.txt") (omega arith) (omega arith) refl refl,
+  (
+    in_folder number (codes "fail.txt") (omega arith) (omega arith) refl refl,
+    (
+      in_folder number (codes "in.txt") (omega arith) (omega arith) refl refl,
+      (
+        in_folder number (codes "job.json") (omega arith) (omega arith) refl refl,
+        (in_folder number (codes "out.txt") (omega arith) (omega arith) refl refl, tt),
+      ),
+    ),
+  ),
+)
 
 pub no_stor : AllByRecursion (λ (a : List ℕ × List ℕ). bytes_eq a.0 (codes "stor") ≡ false) archive_names
 no_stor = (refl, (refl, (refl, (refl, (refl, tt)))))
@@ -136,10 +143,11 @@ module _ {B : Type 0} (n position moment : ℕ) where
   objects : (index : ℕ) (ns : List (List ℕ × List ℕ)) (bs : List B) (rows : Rows B) → length ns ≤ length bs → AllByRecursion (λ a. is_object_at (laid index ns bs rows) (in_job_folder n a.0) ≡ true) ns
   objects index [] bs rows le = tt
   objects index (a ∷ ns) [] rows le = absurd (omega arith)
-  objects index (a ∷ ns) (b ∷ bs) rows le =
-      (kept (index + 1) ns bs (one index a b rows) (in_job_folder n a.0)
-       (ap (λ e. is_some (object_in e)) (at_one index a b rows (in_job_folder n a.0)) ∙ ap (λ t. is_some (object_in (cond t (Some (entry.Object (object_of index a b))) (at rows (in_job_folder n a.0))))) (is_path-self (in_job_folder n a.0))),
-       objects (index + 1) ns bs (one index a b rows) (omega arith))
+  objects index (a ∷ ns) (b ∷ bs) rows le = (
+    kept (index + 1) ns bs (one index a b rows) (in_job_folder n a.0)
+        (ap (λ e. is_some (object_in e)) (at_one index a b rows (in_job_folder n a.0)) ∙ ap (λ t. is_some (object_in (cond t (Some (entry.Object (object_of index a b))) (at rows (in_job_folder n a.0))))) (is_path-self (in_job_folder n a.0))),
+    objects (index + 1) ns bs (one index a b rows) (omega arith),
+  )
 
   -- a path where an object of the archive was put
   record IsNew (ns : List (List ℕ × List ℕ)) (rows : Rows B) (q : AccountPath) : Type 0 where
@@ -230,7 +238,6 @@ module _ {B : Type 0} (count : ℕ) (rows : Rows B) (jobs : List (Job B)) (law :
   pub named : job_named jobs (job_name n) ≡ Some j
   named = find_same (LawfulJob count) (λ x. bytes_eq (job_name x.number) (job_name n)) (λ x. x.number == n)
       (λ x l. name_case x l (bytes_eq (job_name x.number) (job_name n)) (x.number == n) refl refl) jobs lawful.each ∙ found_j
-
 
 module _ {B : Type 0} (count : ℕ) (rows : Rows B) (jobs : List (Job B)) (law : LawfulRows count rows) (lawful : LawfulJobs count rows jobs) (room : count < MOST_COMMANDS)
     (n moment : ℕ) (cancelled : Bool) (bodies : List B) (five : length bodies ≡ 5) (j : Job B) (found_j : job_at jobs n ≡ Some j)

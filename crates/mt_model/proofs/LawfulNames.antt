@@ -67,7 +67,7 @@ module _ (root : List â„•) (component : IsComponent root) (short : length root â
   plain_name =
       plain_append (output_prefix root phase) (identifier_text 3 number)
       (plain_append (root ++ codes "." ++ decimal phase) (codes ".")
-       (plain_append (root ++ codes ".") (decimal phase) (plain_append root (codes ".") (record { text = component.text; clear = component.clear }) plain_dot) (plain_decimal phase (omega arith))) plain_dot)
+      (plain_append (root ++ codes ".") (decimal phase) (plain_append root (codes ".") (record { text = component.text; clear = component.clear }) plain_dot) (plain_decimal phase (omega arith))) plain_dot)
       (plain_identifier number)
 
   output_is_component : IsComponent name

@@ -225,14 +225,14 @@ module _ {B : Type 0} (size : B → ℕ) (s : State B) (law : Lawful s) where
       let up : LawfulUpload s.count u = good u refl in
       let open_yet = neither (refuse_if (not (is_open u.stage)) UploadState) (commit_upload_refusal size s.rows parts u) e in
       let there = neither (refuse_if (not (list_all (is_listed u.parts) (enumerate_from 0 parts))) UploadPart)
-          (first_refusal (refuse_if (nat_lt LARGEST_BODY (sum_by (λ p. size p.body) (listed u.parts parts))) UploadTooLarge) (put_refusal s.rows u.path)) open_yet.1 in
+      (first_refusal (refuse_if (nat_lt LARGEST_BODY (sum_by (λ p. size p.body) (listed u.parts parts))) UploadTooLarge) (put_refusal s.rows u.path)) open_yet.1 in
       let fits_body = neither (refuse_if (nat_lt LARGEST_BODY (sum_by (λ p. size p.body) (listed u.parts parts))) UploadTooLarge) (put_refusal s.rows u.path) there.1 in
       let free = fits_body.1 in
       let outside : is_jobs u.path.area ≡ false = (or_none _ _ up.place).0 in
       let x : Object B = upload_object (number_at s.count 0) u body moment in
       let base = rows_changed (with_row s.rows u.path (entry.Object x))
-          (LawfulRows-with_row (s.count + 1) s.rows rows_later u.path (entry.Object x) up.path (IsTree-put s.rows u.path x law.rows.tree free) (λ o is. new_number x o refl is))
-          (jobs-with_row s.rows u.path (entry.Object x) outside) in
+      (LawfulRows-with_row (s.count + 1) s.rows rows_later u.path (entry.Object x) up.path (IsTree-put s.rows u.path x law.rows.tree free) (λ o is. new_number x o refl is))
+      (jobs-with_row s.rows u.path (entry.Object x) outside) in
       record {
         rows = base.rows;
         jobs = base.jobs;
@@ -258,7 +258,7 @@ module _ {B : Type 0} (size : B → ℕ) (s : State B) (law : Lawful s) where
       let start : Whole (s.count + 1) s.jobs s.rows = record { rows_are = rows_later; jobs_are = LawfulJobs-same s.count (s.count + 1) later s.rows s.rows s.jobs (λ names. refl) law.jobs } in
       let r : Resolved B = resolve_task s j phase place f moment in
       let end_good = resolve_good s.count room s.jobs j (job_in j.number s.jobs j at_own) (named s.count s.rows s.jobs law.rows law.jobs room j.number j at_own)
-          phase few (task_root j phase place) task.root_is.component task.root_is.short moment s.rows start f made in
+      phase few (task_root j phase place) task.root_is.component task.root_is.short moment s.rows start f made in
       let x : TraceEntry B = record { phase = phase; place = place; position = s.count; outcome = r.outcome } in
       record {
         rows = end_good.whole.rows_are;
