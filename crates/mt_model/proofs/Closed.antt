@@ -66,11 +66,11 @@ module _ {B : Type 0} where
     none_behind n same (Some p) here complete i e at is =
         let there : slice_get job.trace (k + i) ≡ Some e = sym (drop_at k i job.trace) ∙ at in
         let within : e.place < task_count p.kind (feed job e.phase) =
-            task_within job (k + i) e.phase e.place (slice_get job.document.phases e.phase) p (ap (slice_get job.document.phases) is ∙ here) (s.tasks (k + i) e there) in
+        task_within job (k + i) e.phase e.place (slice_get job.document.phases e.phase) p (ap (slice_get job.document.phases) is ∙ here) (s.tasks (k + i) e there) in
         let less : e.place < task_count p.kind (feed (before job k) n) = subst (λ x. e.place < task_count p.kind x) (sym same) (subst (λ m. e.place < task_count p.kind (feed job m)) is within) in
         let first : 0 + e.place ≡ e.place = omega arith in
         let then : is_committed (take k job.trace) n e.place ≡ true =
-            subst (λ m. is_committed (take k job.trace) n m ≡ true) first (all_range (is_committed (take k job.trace) n) 0 (task_count p.kind (feed (before job k) n)) e.place (complete p refl) less) in
+        subst (λ m. is_committed (take k job.trace) n m ≡ true) first (all_range (is_committed (take k job.trace) n) 0 (task_count p.kind (feed (before job k) n)) e.place (complete p refl) less) in
         let now : is_committed (take (k + i) job.trace) n e.place ≡ true = committed_stays n e.place k (k + i) job.trace (omega arith) then in
         let not_now : is_committed (take (k + i) job.trace) n e.place ≡ false = subst (λ m. is_committed (take (k + i) job.trace) m e.place ≡ false) is (s.once (k + i) e there) in
         true≢false (sym now ∙ not_now)

@@ -105,14 +105,14 @@ module _ (login : List ℕ) (gives : Run → Bytes → Raw → Type 0) (fate_of 
         let same = same_at t.j k job t.earlier s e.phase e.place p task in
         let gave : MayGive login gives fate_of t.j e.phase e.place p (feed t.j e.phase) t.raw = subst (λ q. MayGive login gives fate_of t.j e.phase e.place q (feed t.j e.phase) t.raw) one t.given in
         let gave_run : gives (run_over itself login job e.phase e.place p (feed job e.phase)) (input_of itself p.kind (feed t.j e.phase) e.place) t.raw =
-            subst (λ r. gives r (input_of itself p.kind (feed t.j e.phase) e.place) t.raw) (same_run t.j k job t.earlier login e.phase e.place p same) gave in
+        subst (λ r. gives r (input_of itself p.kind (feed t.j e.phase) e.place) t.raw) (same_run t.j k job t.earlier login e.phase e.place p same) gave in
         let gave_here : MayGive login gives fate_of job e.phase e.place p (feed job e.phase) t.raw =
-            subst (λ i. gives (run_over itself login job e.phase e.place p (feed job e.phase)) i t.raw) (sym same.input) gave_run in
+        subst (λ i. gives (run_over itself login job e.phase e.place p (feed job e.phase)) i t.raw) (sym same.input) gave_run in
         let out : e.outcome ≡ (resolve (record { job = job.number; phase = e.phase; root = root_at p.kind (feed job e.phase) e.place; position = e.position; moment = t.moment }) (replay first_state t.before).rows (fate_of t.raw)).outcome =
-            t.outcome
-            ∙ ap (λ q. (resolve (record { job = t.j.number; phase = e.phase; root = root_at q.kind (feed t.j e.phase) e.place; position = e.position; moment = t.moment }) (replay first_state t.before).rows (fate_of t.raw)).outcome) one
-            ∙ ap (λ m. (resolve (record { job = m; phase = e.phase; root = root_at p.kind (feed t.j e.phase) e.place; position = e.position; moment = t.moment }) (replay first_state t.before).rows (fate_of t.raw)).outcome) t.earlier.number
-            ∙ ap (λ r. (resolve (record { job = job.number; phase = e.phase; root = r; position = e.position; moment = t.moment }) (replay first_state t.before).rows (fate_of t.raw)).outcome) (sym same.root) in
+        t.outcome
+        ∙ ap (λ q. (resolve (record { job = t.j.number; phase = e.phase; root = root_at q.kind (feed t.j e.phase) e.place; position = e.position; moment = t.moment }) (replay first_state t.before).rows (fate_of t.raw)).outcome) one
+        ∙ ap (λ m. (resolve (record { job = m; phase = e.phase; root = root_at p.kind (feed t.j e.phase) e.place; position = e.position; moment = t.moment }) (replay first_state t.before).rows (fate_of t.raw)).outcome) t.earlier.number
+        ∙ ap (λ r. (resolve (record { job = job.number; phase = e.phase; root = r; position = e.position; moment = t.moment }) (replay first_state t.before).rows (fate_of t.raw)).outcome) (sym same.root) in
         subst (λ m. IsGiven login gives fate_of h job m p (feed job m) e) is (record {
           before = t.before;
           after = t.after;
@@ -172,10 +172,11 @@ module _ (login : List ℕ) (gives : Run → Bytes → Raw → Type 0) (fate_of 
     phases_from n [] items is stand = is ∙ ap (feed job) (none_more n)
     phases_from n (p ∷ ps) items is stand =
         let here : slice_get job.document.phases n ≡ Some p = stand_here n p ps stand in
-        let more = phases_from (n + 1) ps (items_in (entries_of n job.trace)) (sym (feed_suc n)) (stand_on n p ps stand) in
-        (subst (λ x. IsEachTaskOnce p.kind x (entries_of n job.trace)) (sym is) (tasks n p here),
-         subst (λ x. All (IsGiven login gives fate_of h job n p x) (entries_of n job.trace)) (sym is) (given n p here),
-         subst (λ x. From (n + 1) ps (items_in (entries_of n job.trace)) (feed job x)) (length_on n p ps) more)
+        let more = phases_from (n + 1) ps (items_in (entries_of n job.trace)) (sym (feed_suc n)) (stand_on n p ps stand) in (
+          subst (λ x. IsEachTaskOnce p.kind x (entries_of n job.trace)) (sym is) (tasks n p here),
+          subst (λ x. All (IsGiven login gives fate_of h job n p x) (entries_of n job.trace)) (sym is) (given n p here),
+          subst (λ x. From (n + 1) ps (items_in (entries_of n job.trace)) (feed job x)) (length_on n p ps) more,
+        )
 
     reads_from : (n : ℕ) (ps : List Phase) → Stand n ps → AreReadOnce job (enumerate_from n ps)
     reads_from n [] stand = tt

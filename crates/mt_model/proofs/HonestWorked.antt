@@ -72,14 +72,25 @@ is_document = record {
 
 pub cat_is_honest : Honest (codes "l") cat_gives judged finished
 unfolding HonestFrom allowed change replay step identifier_text by_index digits
-cat_is_honest =
-    (record { room = omega arith; made = a_is_path; free = refl; honest = tt },
-    (record { room = omega arith; made = is_document; free = refl; honest = tt },
-    (record { room = omega arith; made = (a_is_path, (a_is_path, (none_is_path, tt))); free = refl; honest = tt },
-    (record { room = omega arith; made = (omega arith, (tt, tt)); free = refl; honest = record { of_phase = cat; raw = hello; has = refl; given = refl; judged = refl } },
-    (record { room = omega arith; made = tt; free = refl; honest = tt },
-    (record { room = omega arith; made = (omega arith, (tt, tt)); free = refl; honest = record { of_phase = cat; raw = hello; has = refl; given = refl; judged = refl } },
-    (record { room = omega arith; made = tt; free = refl; honest = tt }, tt)))))))
+cat_is_honest = (
+  record { room = omega arith; made = a_is_path; free = refl; honest = tt },
+  (
+    record { room = omega arith; made = is_document; free = refl; honest = tt },
+    (
+      record { room = omega arith; made = (a_is_path, (a_is_path, (none_is_path, tt))); free = refl; honest = tt },
+      (
+        record { room = omega arith; made = (omega arith, (tt, tt)); free = refl; honest = record { of_phase = cat; raw = hello; has = refl; given = refl; judged = refl } },
+        (
+          record { room = omega arith; made = tt; free = refl; honest = tt },
+          (
+            record { room = omega arith; made = (omega arith, (tt, tt)); free = refl; honest = record { of_phase = cat; raw = hello; has = refl; given = refl; judged = refl } },
+            (record { room = omega arith; made = tt; free = refl; honest = tt }, tt),
+          ),
+        ),
+      ),
+    ),
+  ),
+)
 
 -- ---- what is not honest, and not meant
 

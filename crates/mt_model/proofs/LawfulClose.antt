@@ -31,7 +31,7 @@ use Rattle.mt_model.proofs.Words.{IsAscii-from_test, name_is_component}
 
 -- ---- the names of an archive
 
-word : (name : List ℕ) → 3 ≤ length name → length name ≤ 8 → list_all (λ b. nat_lt b 128) name ≡ true → list_any is_barred name ≡ false → IsComponent name
+pub word : (name : List ℕ) → 3 ≤ length name → length name ≤ 8 → list_all (λ b. nat_lt b 128) name ≡ true → list_any is_barred name ≡ false → IsComponent name
 word name least most ascii clear = record {
   some = omega arith;
   short = omega arith;
@@ -50,14 +50,21 @@ in_folder number name least most ascii clear =
     }
 
 archive_paths : (number : ℕ) → AllByRecursion (λ (a : List ℕ × List ℕ). IsPath (in_job_folder number a.0)) archive_names
-archive_paths number =
-    (in_folder number (codes "err.txt") (omega arith) (omega arith) refl refl,
-    (in_folder number (codes "fail.txt") (omega arith) (omega arith) refl refl,
-    (in_folder number (codes "in.txt") (omega arith) (omega arith) refl refl,
-    (in_folder number (codes "job.json") (omega arith) (omega arith) refl refl,
-    (in_folder number (codes "out.txt") (omega arith) (omega arith) refl refl, tt)))))
+archive_paths number = (
+  in_folder number (codes "err.txt") (omega arith) (omega arith) refl refl,
+  (
+    in_folder number (codes "fail.txt") (omega arith) (omega arith) refl refl,
+    (
+      in_folder number (codes "in.txt") (omega arith) (omega arith) refl refl,
+      (
+        in_folder number (codes "job.json") (omega arith) (omega arith) refl refl,
+        (in_folder number (codes "out.txt") (omega arith) (omega arith) refl refl, tt),
+      ),
+    ),
+  ),
+)
 
-no_stor : AllByRecursion (λ (a : List ℕ × List ℕ). bytes_eq a.0 (codes "stor") ≡ false) archive_names
+pub no_stor : AllByRecursion (λ (a : List ℕ × List ℕ). bytes_eq a.0 (codes "stor") ≡ false) archive_names
 no_stor = (refl, (refl, (refl, (refl, (refl, tt)))))
 
 each_from : {X : Type 0} (P Q : X → Type 0) → ((x : X) → P x → Q x) → (xs : List X) → AllByRecursion P xs → AllByRecursion Q xs
@@ -72,11 +79,11 @@ list_all_true : {X : Type 0} (t : X → Bool) (xs : List X) → AllByRecursion (
 list_all_true t [] all = refl
 list_all_true t (x ∷ xs) all = ap (λ b. b && list_all t xs) all.0 ∙ list_all_true t xs all.1
 
-or_left : (a b : Bool) → a ≡ true → (a || b) ≡ true
+pub or_left : (a b : Bool) → a ≡ true → (a || b) ≡ true
 or_left true b e = refl
 or_left false b e = cc
 
-or_right : (a b : Bool) → b ≡ true → (a || b) ≡ true
+pub or_right : (a b : Bool) → b ≡ true → (a || b) ≡ true
 or_right true b e = refl
 or_right false b e = e
 
@@ -85,11 +92,11 @@ find_same P s t each [] a = refl
 find_same P s t each (x ∷ xs) a =
     ap (λ b. cond b (Some x) (find s xs)) (each x (All-head P x xs a)) ∙ ap (λ o. cond (t x) (Some x) o) (find_same P s t each xs (All-tail P x xs a))
 
-abbrev head : List (List ℕ) → List ℕ
+abbrev pub head : List (List ℕ) → List ℕ
 head [] = []
 head (x ∷ xs) = x
 
-abbrev second : List (List ℕ) → List ℕ
+abbrev pub second : List (List ℕ) → List ℕ
 second [] = []
 second (x ∷ []) = []
 second (x ∷ y ∷ zs) = y
@@ -136,10 +143,11 @@ module _ {B : Type 0} (n position moment : ℕ) where
   objects : (index : ℕ) (ns : List (List ℕ × List ℕ)) (bs : List B) (rows : Rows B) → length ns ≤ length bs → AllByRecursion (λ a. is_object_at (laid index ns bs rows) (in_job_folder n a.0) ≡ true) ns
   objects index [] bs rows le = tt
   objects index (a ∷ ns) [] rows le = absurd (omega arith)
-  objects index (a ∷ ns) (b ∷ bs) rows le =
-      (kept (index + 1) ns bs (one index a b rows) (in_job_folder n a.0)
-       (ap (λ e. is_some (object_in e)) (at_one index a b rows (in_job_folder n a.0)) ∙ ap (λ t. is_some (object_in (cond t (Some (entry.Object (object_of index a b))) (at rows (in_job_folder n a.0))))) (is_path-self (in_job_folder n a.0))),
-       objects (index + 1) ns bs (one index a b rows) (omega arith))
+  objects index (a ∷ ns) (b ∷ bs) rows le = (
+    kept (index + 1) ns bs (one index a b rows) (in_job_folder n a.0)
+        (ap (λ e. is_some (object_in e)) (at_one index a b rows (in_job_folder n a.0)) ∙ ap (λ t. is_some (object_in (cond t (Some (entry.Object (object_of index a b))) (at rows (in_job_folder n a.0))))) (is_path-self (in_job_folder n a.0))),
+    objects (index + 1) ns bs (one index a b rows) (omega arith),
+  )
 
   -- a path where an object of the archive was put
   record IsNew (ns : List (List ℕ × List ℕ)) (rows : Rows B) (q : AccountPath) : Type 0 where
@@ -200,30 +208,22 @@ clash false true false e f = cc
 clash false false true e f = cc
 clash false false false e f = cc
 
+-- what holds of all jobs holds of the one that is found
+pub job_in : {B : Type 0} (n : ℕ) (xs : List (Job B)) (j : Job B) → job_at xs n ≡ Some j → (P : Job B → Type 0) → All P xs → P j
+job_in n [] j is P a = cc
+job_in n (x ∷ xs) j is P a = by (x.number == n) is (λ more. job_in n xs j more P (All-tail P x xs a))
+  where
+    by : (b : Bool) → cond b (Some x) (job_at xs n) ≡ Some j → (job_at xs n ≡ Some j → P j) → P j
+    by true at more = subst P (ap (λ o. unwrap_or o x) at) (All-head P x xs a)
+    by false at more = more at
+
 module _ {B : Type 0} (count : ℕ) (rows : Rows B) (jobs : List (Job B)) (law : LawfulRows count rows) (lawful : LawfulJobs count rows jobs) (room : count < MOST_COMMANDS)
-    (n moment : ℕ) (cancelled : Bool) (bodies : List B) (five : length bodies ≡ 5) (j : Job B) (found_j : job_at jobs n ≡ Some j)
-    (good : All (λ x. x.number ≡ n → LawfulJob count (done_at moment cancelled x)) jobs) where
-  abbrev new : Rows B
-  new = with_archive_from 0 rows n count moment archive_names bodies
-
-  abbrev closed : List (Job B)
-  closed = with_job jobs n (done_at moment cancelled)
-
-  number : j.number ≡ n
+    (n : ℕ) (j : Job B) (found_j : job_at jobs n ≡ Some j) where
+  pub number : j.number ≡ n
   number = number_at_job n jobs j found_j
 
-  -- ---- the job by its name
-
-  job_found : (P : Job B → Type 0) (xs : List (Job B)) → All P xs → job_at xs n ≡ Some j → P j
-  job_found P [] a is = cc
-  job_found P (x ∷ xs) a is = by (x.number == n) is (job_found P xs (All-tail P x xs a))
-    where
-      by : (b : Bool) → cond b (Some x) (job_at xs n) ≡ Some j → (job_at xs n ≡ Some j → P j) → P j
-      by true at more = subst P (ap (λ o. unwrap_or o x) at) (All-head P x xs a)
-      by false at more = more at
-
   below : IsBelow count n
-  below = subst (IsBelow count) number (job_found (LawfulJob count) jobs lawful.each found_j).number.below
+  below = subst (IsBelow count) number (job_in n jobs j found_j (LawfulJob count) lawful.each).number.below
 
   name_case : (x : Job B) → LawfulJob count x → (b c : Bool) → bytes_eq (job_name x.number) (job_name n) ≡ b → x.number == n ≡ c → b ≡ c
   name_case x l true true t u = refl
@@ -235,15 +235,30 @@ module _ {B : Type 0} (count : ℕ) (rows : Rows B) (jobs : List (Job B)) (law :
   name_case x l false true t u = absurd (true≢false (sym ((bytes_eq-Decides (job_name x.number) (job_name n)).1 (ap job_name (eqb-true x.number n u))) ∙ t))
   name_case x l false false t u = refl
 
-  named : job_named jobs (job_name n) ≡ Some j
+  pub named : job_named jobs (job_name n) ≡ Some j
   named = find_same (LawfulJob count) (λ x. bytes_eq (job_name x.number) (job_name n)) (λ x. x.number == n)
       (λ x l. name_case x l (bytes_eq (job_name x.number) (job_name n)) (x.number == n) refl refl) jobs lawful.each ∙ found_j
+
+module _ {B : Type 0} (count : ℕ) (rows : Rows B) (jobs : List (Job B)) (law : LawfulRows count rows) (lawful : LawfulJobs count rows jobs) (room : count < MOST_COMMANDS)
+    (n moment : ℕ) (cancelled : Bool) (bodies : List B) (five : length bodies ≡ 5) (j : Job B) (found_j : job_at jobs n ≡ Some j)
+    (good : All (λ x. x.number ≡ n → LawfulJob count (done_at moment cancelled x)) jobs) where
+  abbrev new : Rows B
+  new = with_archive_from 0 rows n count moment archive_names bodies
+
+  abbrev closed : List (Job B)
+  closed = with_job jobs n (done_at moment cancelled)
+
+  number_n : j.number ≡ n
+  number_n = number count rows jobs law lawful room n j found_j
+
+  named_n : job_named jobs (job_name n) ≡ Some j
+  named_n = named count rows jobs law lawful room n j found_j
 
   done_here : job_named closed (job_name n) ≡ Some (done_at moment cancelled j)
   done_here =
       named-changed n (done_at moment cancelled) (KeepsJob-done moment cancelled) jobs (job_name n)
-      ∙ ap (option_map (λ x. cond (x.number == n) (done_at moment cancelled x) x)) named
-      ∙ ap (λ b. Some (cond b (done_at moment cancelled j) j)) (eq-eqb j.number n number)
+      ∙ ap (option_map (λ x. cond (x.number == n) (done_at moment cancelled x) x)) named_n
+      ∙ ap (λ b. Some (cond b (done_at moment cancelled j) j)) (eq-eqb j.number n number_n)
 
   -- ---- no directory stands where its archive is to stand
 
@@ -254,13 +269,13 @@ module _ {B : Type 0} (count : ℕ) (rows : Rows B) (jobs : List (Job B)) (law :
   free_case : (name : List ℕ) → bytes_eq name (codes "stor") ≡ false → (o : Option (Entry B)) → at rows (in_job_folder n name) ≡ o → is_directory o ≡ false
   free_case name never None is = refl
   free_case name never (Some e) is =
-      no_directory name never e (sym (ap (λ o. fits_below o (name ∷ []) e) named) ∙ lawful.entries (job_name n) (name ∷ []) e is)
+      no_directory name never e (sym (ap (λ o. fits_below o (name ∷ []) e) named_n) ∙ lawful.entries (job_name n) (name ∷ []) e is)
 
   free : AllByRecursion (λ (a : List ℕ × List ℕ). is_directory (at rows (in_job_folder n a.0)) ≡ false) archive_names
   free = each_from (λ (a : List ℕ × List ℕ). bytes_eq a.0 (codes "stor") ≡ false) (λ a. is_directory (at rows (in_job_folder n a.0)) ≡ false) (λ a never. free_case a.0 never (at rows (in_job_folder n a.0)) refl) archive_names no_stor
 
   folder_there : is_directory (at rows (job_folder n)) ≡ true
-  folder_there = subst (λ m. is_directory (at rows (job_folder m)) ≡ true) number (job_found (HasFolders rows) jobs lawful.folders found_j).folder
+  folder_there = subst (λ m. is_directory (at rows (job_folder m)) ≡ true) number_n (job_in n jobs j found_j (HasFolders rows) lawful.folders).folder
 
   pub LawfulRows-closed : LawfulRows (count + 1) new
   LawfulRows-closed = lawful_laid n count moment 0 archive_names bodies rows (omega arith) (LawfulRows-later count (count + 1) rows (omega arith) law) folder_there (archive_paths n) free

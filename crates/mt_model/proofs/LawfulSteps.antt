@@ -7,10 +7,10 @@ use Rattle.std.proofs.lemmas.List.Elements.{All-nil, All-cons, All-head, All-tai
 use Rattle.mt_path.specs.AccountPath.{AccountPath, IsPath, root_of}
 use Rattle.mt_path.specs.declared.area.Area.{Area}
 use Rattle.mt_path.specs.declared.area.Area.TheVariants.{Stor, Public, Jobs}
-use Rattle.mt_types.specs.declared.command.Command.TheVariants.{Put, MakeDirectory, Link, Delete, NewJob, AddInputs, EndInput, Finish, Cancel, Close, NewUpload, PutPart, CommitUpload, AbortUpload}
+use Rattle.mt_types.specs.declared.command.Command.TheVariants.{Put, MakeDirectory, Link, Delete, NewJob, AddInputs, EndInput, Commit, Finish, Cancel, Close, NewUpload, PutPart, CommitUpload, AbortUpload}
 use Rattle.mt_types.specs.declared.command.Archive.{Archive}
 use Rattle.mt_types.specs.declared.document.InputLine.{InputLine}
-use Rattle.mt_types.specs.WellMade.{IsDocument}
+use Rattle.mt_types.specs.WellMade.{IsDocument, IsWellMadeFate}
 use Rattle.mt_types.specs.declared.document.JobDocument.{JobDocument}
 use Rattle.mt_types.specs.declared.job.Job.{Job}
 use Rattle.mt_types.specs.declared.object.Entry.{Entry}
@@ -19,10 +19,13 @@ use Rattle.mt_types.specs.declared.object.Field.{Field}
 use Rattle.mt_types.specs.declared.object.Object.{Object}
 use Rattle.mt_types.specs.Limits.{is_index}
 use Rattle.mt_types.specs.declared.refusal.Refusal.TheVariants.{UploadPart, UploadState, UploadTooLarge}
+use Rattle.mt_types.specs.declared.job.TraceEntry.{TraceEntry}
+use Rattle.mt_types.specs.declared.task.Fate.{Fate}
+use Rattle.mt_model.specs.Resolve.{Resolved}
 use Rattle.mt_types.specs.declared.upload.Stage.TheVariants.{Aborted, Committed}
 use Rattle.mt_types.specs.declared.upload.Upload.{Upload}
 use Rattle.mt_model.specs.CommandStep.{allowed, change, linked, put_object, step}
-use Rattle.mt_model.specs.JobSteps.{add_inputs_refusal, archive_bodies, close, close_refusal, done_at, job_refusal, finish_refusal, input_refusal, running_refusal, with_end, with_lines}
+use Rattle.mt_model.specs.JobSteps.{add_inputs_refusal, archive_bodies, close, close_refusal, commit, commit_refusal, done_at, job_refusal, resolve_task, task_root, with_entry, finish_refusal, input_refusal, running_refusal, with_end, with_lines}
 use Rattle.mt_model.specs.Lawful.{HasFolders, IsBelow, Lawful, LawfulJob, LawfulRows, LawfulUpload}
 use Rattle.mt_types.specs.declared.limits.TheConstants.{LARGEST_BODY, MOST_COMMANDS}
 use Rattle.mt_model.specs.Names.{number_at}
@@ -30,8 +33,10 @@ use Rattle.mt_model.specs.Rows.{Rows, at, first_refusal, first_rows, is_path, li
 use Rattle.mt_model.specs.State.{State, first_state, job_at, upload_at, with_job}
 use Rattle.mt_model.specs.UploadSteps.{commit_upload, commit_upload_refusal, is_jobs, is_listed, is_open, listed, upload_object, upload_refusal}
 use Rattle.mt_model.proofs.LawfulEnds.{KeepsJob-done, LawfulJob-closed, LawfulJob-cancelled, LawfulJob-finished}
-use Rattle.mt_model.proofs.LawfulClose.{LawfulJobs-closed, LawfulRows-closed}
-use Rattle.mt_model.proofs.Standing.{complete_closed}
+use Rattle.mt_model.proofs.LawfulClose.{LawfulJobs-closed, LawfulRows-closed, job_in, named}
+use Rattle.mt_model.proofs.LawfulCommit.{LawfulJob-entry, resolve_good, task_good}
+use Rattle.mt_model.proofs.LawfulPuts.{Whole}
+use Rattle.mt_model.proofs.Standing.{KeepsJob-entry, complete_closed, number_at_job}
 use Rattle.mt_model.proofs.LawfulInputs.{KeepsJob-end, KeepsJob-lines, LawfulJob-ended, lines_good, open-allowed, or_none}
 use Rattle.mt_model.proofs.LawfulJobs.{KeepsJob, LawfulJobs-changed, LawfulJobs-same, found, in_jobs}
 use Rattle.mt_model.proofs.LawfulNewJob.{LawfulJobs-new_job, LawfulRows-new_job, sorted_nil}
@@ -220,14 +225,14 @@ module _ {B : Type 0} (size : B → ℕ) (s : State B) (law : Lawful s) where
       let up : LawfulUpload s.count u = good u refl in
       let open_yet = neither (refuse_if (not (is_open u.stage)) UploadState) (commit_upload_refusal size s.rows parts u) e in
       let there = neither (refuse_if (not (list_all (is_listed u.parts) (enumerate_from 0 parts))) UploadPart)
-          (first_refusal (refuse_if (nat_lt LARGEST_BODY (sum_by (λ p. size p.body) (listed u.parts parts))) UploadTooLarge) (put_refusal s.rows u.path)) open_yet.1 in
+      (first_refusal (refuse_if (nat_lt LARGEST_BODY (sum_by (λ p. size p.body) (listed u.parts parts))) UploadTooLarge) (put_refusal s.rows u.path)) open_yet.1 in
       let fits_body = neither (refuse_if (nat_lt LARGEST_BODY (sum_by (λ p. size p.body) (listed u.parts parts))) UploadTooLarge) (put_refusal s.rows u.path) there.1 in
       let free = fits_body.1 in
       let outside : is_jobs u.path.area ≡ false = (or_none _ _ up.place).0 in
       let x : Object B = upload_object (number_at s.count 0) u body moment in
       let base = rows_changed (with_row s.rows u.path (entry.Object x))
-          (LawfulRows-with_row (s.count + 1) s.rows rows_later u.path (entry.Object x) up.path (IsTree-put s.rows u.path x law.rows.tree free) (λ o is. new_number x o refl is))
-          (jobs-with_row s.rows u.path (entry.Object x) outside) in
+      (LawfulRows-with_row (s.count + 1) s.rows rows_later u.path (entry.Object x) up.path (IsTree-put s.rows u.path x law.rows.tree free) (λ o is. new_number x o refl is))
+      (jobs-with_row s.rows u.path (entry.Object x) outside) in
       record {
         rows = base.rows;
         jobs = base.jobs;
@@ -238,6 +243,35 @@ module _ {B : Type 0} (size : B → ℕ) (s : State B) (law : Lawful s) where
   unfolding allowed change step
   Lawful-commit_upload upload parts body moment e =
       commit_upload_case parts body moment (upload_at s.uploads upload) (λ u at. upload_found (LawfulUpload s.count) upload s.uploads u law.uploads.each at) e
+
+  -- ---- a commit
+
+  commit_case : (number phase place : ℕ) (f : Fate B) (moment : ℕ) → IsWellMadeFate f → s.count < MOST_COMMANDS → (o : Option (Job B)) → job_at s.jobs number ≡ o → job_refusal o (commit_refusal phase place) ≡ None
+      → All (λ x. x.number ≡ number → commit_refusal phase place x ≡ None) s.jobs → Lawful (record (commit s o phase place f moment) { count = s.count + 1 })
+  commit_case number phase place f moment made room None at e none = cc
+  commit_case number phase place f moment made room (Some j) at e none =
+      let same : j.number ≡ number = number_at_job number s.jobs j at in
+      let at_own : job_at s.jobs j.number ≡ Some j = ap (job_at s.jobs) same ∙ at in
+      let l : LawfulJob s.count j = job_in number s.jobs j at (LawfulJob s.count) law.jobs.each in
+      let task = task_good s.count j l phase place e in
+      let few : phase < 16 = (let under = task.few in let most = l.document.few in omega (arith, under, most)) in
+      let start : Whole (s.count + 1) s.jobs s.rows = record { rows_are = rows_later; jobs_are = LawfulJobs-same s.count (s.count + 1) later s.rows s.rows s.jobs (λ names. refl) law.jobs } in
+      let r : Resolved B = resolve_task s j phase place f moment in
+      let end_good = resolve_good s.count room s.jobs j (job_in j.number s.jobs j at_own) (named s.count s.rows s.jobs law.rows law.jobs room j.number j at_own)
+      phase few (task_root j phase place) task.root_is.component task.root_is.short moment s.rows start f made in
+      let x : TraceEntry B = record { phase = phase; place = place; position = s.count; outcome = r.outcome } in
+      record {
+        rows = end_good.whole.rows_are;
+        jobs = LawfulJobs-changed j.number (with_entry x) (KeepsJob-entry x) (s.count + 1) r.rows s.jobs end_good.whole.jobs_are
+            (both (LawfulJob s.count) (λ y. y.number ≡ number → commit_refusal phase place y ≡ None) (λ y. y.number ≡ j.number → LawfulJob (s.count + 1) (with_entry x y))
+            (λ y ly free is. LawfulJob-entry s.count y x (free (is ∙ same)) refl end_good.items ly) s.jobs law.jobs.each none);
+        uploads = LawfulUploads-later s.count (s.count + 1) later s.uploads law.uploads;
+      }
+
+  pub Lawful-commit : (number phase place : ℕ) (f : Fate B) (moment : ℕ) → IsWellMadeFate f → s.count < MOST_COMMANDS → allowed size s (Commit number phase place f moment) ≡ None → Lawful (step s (Commit number phase place f moment))
+  unfolding allowed change step
+  Lawful-commit number phase place f moment made room e =
+      commit_case number phase place f moment made room (job_at s.jobs number) refl e (found number (commit_refusal phase place) s.jobs law.jobs.rising e)
 
 -- ---- the first state
 

@@ -30,3 +30,7 @@ pub mod Stood
 pub mod Finished
 pub mod Shares
 pub mod HonestWorked
+pub mod LawfulPuts
+pub mod LawfulNames
+pub mod LawfulCommit
+pub mod LawfulHistories

@@ -51,9 +51,10 @@ like j d inputs trace = record j { document = d; inputs = inputs; trace = trace 
 module _ (j : Job Bytes) (k : ℕ) (job : Job Bytes) (e : IsEarlier j k job) where
   feed_front : (n : ℕ) → (more : List (Item Bytes)) × (feed job n ≡ feed j n ++ more)
   feed_front zero = (e.more, e.inputs)
-  feed_front (suc n) =
-      (items_in (entries_of n (drop k job.trace)),
-       items_front n k job.trace ∙ ap (λ t. items_in (entries_of n t) ++ items_in (entries_of n (drop k job.trace))) (sym e.trace))
+  feed_front (suc n) = (
+    items_in (entries_of n (drop k job.trace)),
+    items_front n k job.trace ∙ ap (λ t. items_in (entries_of n t) ++ items_in (entries_of n (drop k job.trace))) (sym e.trace),
+  )
 
   feed_same : Sound job → (n : ℕ) → j.ended ≡ true → complete_before j n ≡ true → feed job n ≡ feed j n
   feed_same s n ended all =

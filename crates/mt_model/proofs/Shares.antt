@@ -76,7 +76,7 @@ none_hold (suc count) a =
     let more = none_hold count (a + 1) in
     omega (arith, first, more)
 
-beyond : {X : Type 0} (xs : List X) (n : ℕ) → slice_get xs n ≡ None → length xs ≤ n
+pub beyond : {X : Type 0} (xs : List X) (n : ℕ) → slice_get xs n ≡ None → length xs ≤ n
 beyond [] n at = omega arith
 beyond (x ∷ xs) zero at = cc
 beyond (x ∷ xs) (suc n) at = let more = beyond xs n at in omega (arith, more)

@@ -256,7 +256,7 @@ module _ (login : List ℕ) (gives : Run → Bytes → Raw → Type 0) (fate_of 
       all_changed h c j.number (with_entry e) s.jobs
       (both (λ x. x.number ≡ number → job_at s.jobs number ≡ Some x) (HasStood h) (λ x. x.number ≡ j.number → HasStood (h ++ c ∷ []) (with_entry e x))
       (λ x is t e'. let one : j ≡ x = some_job j x (sym at ∙ is (e' ∙ same)) in
-          subst (λ y. HasStood (h ++ c ∷ []) (with_entry e y)) one (entry_stood h number phase place fate moment j same none came (subst (HasStood h) (sym one) t)))
+      subst (λ y. HasStood (h ++ c ∷ []) (with_entry e y)) one (entry_stood h number phase place fate moment j same none came (subst (HasStood h) (sym one) t)))
       s.jobs ats all) all
 
   abbrev KeepsOne : ℕ → (Job Bytes → Job Bytes) → Job Bytes → Type 0

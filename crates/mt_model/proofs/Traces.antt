@@ -144,7 +144,7 @@ module _ {B : Type 0} where
   beyond job s n k p at past true t =
       let m = any_at n k job.trace t in
       let within : m.1.place < task_count p.kind (feed job m.1.phase) =
-          task_within job m.0 m.1.phase m.1.place (slice_get job.document.phases m.1.phase) p (ap (slice_get job.document.phases) m.3 ∙ at) (s.tasks m.0 m.1 m.2) in
+      task_within job m.0 m.1.phase m.1.place (slice_get job.document.phases m.1.phase) p (ap (slice_get job.document.phases) m.3 ∙ at) (s.tasks m.0 m.1 m.2) in
       let there : k < task_count p.kind (feed job n) = subst (λ x. k < task_count p.kind (feed job x)) m.3 (subst (λ x. x < task_count p.kind (feed job m.1.phase)) m.4 within) in
       absurd (omega (arith, there, past))
   beyond job s n k p at past false t = refl

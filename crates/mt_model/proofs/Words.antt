@@ -45,15 +45,15 @@ stor_is_component = record {
 
 -- ---- the folders of jobs are paths
 
-or_false : (a b : Bool) → a ≡ false → b ≡ false → (a || b) ≡ false
+pub or_false : (a b : Bool) → a ≡ false → b ≡ false → (a || b) ≡ false
 or_false true b p q = cc
 or_false false b p q = q
 
-in_range : (b : ℕ) → 48 ≤ b → b ≤ 102 → is_barred b ≡ false
+pub in_range : (b : ℕ) → 48 ≤ b → b ≤ 102 → is_barred b ≡ false
 in_range b low high = or_false _ _ (or_false _ _ (le-ltb b 32 (omega arith)) (ne_eqb b slash (λ e. omega arith))) (ne_eqb b 127 (λ e. omega arith))
 
 -- no byte of an identifier is barred from a name
-unbarred : (b : ℕ) → IsIdentifierByte b → is_barred b ≡ false
+pub unbarred : (b : ℕ) → IsIdentifierByte b → is_barred b ≡ false
 unbarred b (inl e) = ap is_barred e
 unbarred b (inr (inl r)) = in_range b (omega arith) (omega arith)
 unbarred b (inr (inr r)) = in_range b (omega arith) (omega arith)

@@ -1,6 +1,6 @@
 -- The laws of the definitions, as they are told to the layers above: of bodies that are references into a log, and
 -- of the bytes that a function reads for each.
-use Rattle.std.specs.Prelude.{◌≡◌, ℕ, ◌<◌, nat_lt, cond, List, map, length, None, ◌++◌}
+use Rattle.std.specs.Prelude.{◌≡◌, ℕ, ◌<◌, nat_lt, cond, ⊤, List, [], ◌∷◌, map, length, None, ◌++◌}
 use Rattle.std.specs.List.{count_by, range_with_len}
 use Rattle.mt_path.specs.AccountPath.{AccountPath}
 use Rattle.mt_types.specs.Values.{command_with, fate_with, item_with, job_with, trace_entry_with}
@@ -12,6 +12,7 @@ use Rattle.mt_types.specs.declared.job.Item.{Item}
 use Rattle.mt_types.specs.declared.job.Job.{Job}
 use Rattle.mt_types.specs.declared.job.TraceEntry.{TraceEntry}
 use Rattle.mt_types.specs.declared.task.Fate.{Fate}
+use Rattle.mt_types.specs.WellMade.{IsWellMade}
 use Rattle.mt_types.specs.Kinds.{OnRows, kind_of}
 use Rattle.mt_model.specs.Bodies.{OfState, resolved_with, rows_with, state_with}
 use Rattle.mt_model.specs.CommandStep.{allowed, replay, step}
@@ -105,3 +106,12 @@ StatesAgree = (f g : Reading) (s : State Body) → OfState (λ b. f b ≡ g b) s
 -- where a command is allowed, it keeps a state lawful: as long as there is room for one more
 abbrev pub KeepsLawful : Command Body → Type 0
 KeepsLawful c = (s : State Body) → Lawful s → s.count < MOST_COMMANDS → allowed (λ b. b.len) s c ≡ None → Lawful (step s c)
+
+-- each command is well made and allowed in the state before it, which has room for one more
+unfoldable pub TakenFrom : State Body → List (Command Body) → Type 0
+TakenFrom s [] = ⊤
+TakenFrom s (c ∷ cs) = (s.count < MOST_COMMANDS) × IsWellMade c × (allowed (λ b. b.len) s c ≡ None) × TakenFrom (step s c) cs
+
+-- such a history leads from a lawful state to a lawful state
+abbrev pub HistoriesAreLawful : Type 0
+HistoriesAreLawful = (s : State Body) (h : List (Command Body)) → Lawful s → TakenFrom s h → Lawful (replay s h)

@@ -1,11 +1,12 @@
 -- Worked examples: short histories over bytes, at moment 0.
-use Rattle.std.specs.Prelude.{◌≡◌, ℕ, false, List, [], ◌∷◌, ◌++◌, codes, Option, None, map}
+use Rattle.std.specs.Prelude.{◌≡◌, ℕ, false, List, [], ◌∷◌, ◌++◌, codes, Option, Some, None, map}
 use Rattle.std.specs.List.{last_or}
 use Rattle.std.specs.Option.{option_and_then, option_map, unwrap_or}
 use Rattle.mt_path.specs.AccountPath.{AccountPath}
 use Rattle.mt_path.specs.declared.area.Area.TheVariants.{Stor, Jobs}
+use Rattle.mt_types.specs.declared.command.Archive.{Archive}
 use Rattle.mt_types.specs.declared.command.Command.{Command}
-use Rattle.mt_types.specs.declared.command.Command.TheVariants.{Put, MakeDirectory, Link, Delete, NewJob, AddInputs, EndInput, Commit, Finish}
+use Rattle.mt_types.specs.declared.command.Command.TheVariants.{Put, MakeDirectory, Link, Delete, NewJob, AddInputs, EndInput, Commit, Finish, Close, NewUpload, PutPart, CommitUpload}
 use Rattle.mt_types.specs.declared.document.InputLine.TheVariants.{Named}
 use Rattle.mt_types.specs.declared.document.Phase.{Phase}
 use Rattle.mt_types.specs.declared.document.PhaseKind.{PhaseKind}
@@ -21,6 +22,7 @@ use Rattle.mt_types.specs.declared.task.Run.{Run}
 use Rattle.mt_types.specs.declared.task.TaskRecord.{TaskRecord}
 use Rattle.mt_types.specs.declared.task.TaskRecord.TheVariants.{Emit}
 use Rattle.mt_types.specs.declared.job.Outcome.{Outcome}
+use Rattle.mt_types.specs.declared.object.Field.{Field}
 use Rattle.mt_model.specs.CommandStep.{replay}
 use Rattle.mt_model.specs.Feed.{feed}
 use Rattle.mt_model.specs.Honest.{Bytes}
@@ -196,3 +198,59 @@ no_job = record { number = 0; document = record { name = []; phases = [] }; asse
 -- the job of a map phase, after a history
 abbrev pub map_job_after : List (Command Bytes) → Job Bytes
 map_job_after h = unwrap_or (job_at (after h).jobs 0x1000) no_job
+
+-- ---- the map job closed
+
+-- five texts
+abbrev pub texts : Archive Bytes
+texts = record { err = codes "e"; fail = codes "f"; input = codes "i"; status = codes "s"; out = codes "o" }
+
+-- the job closed in place of finished
+abbrev pub closed : List (Command Bytes)
+closed = complete ++ Close 0x1000 false texts 0 ∷ []
+
+-- a path in the folder of the job
+abbrev pub in_folder : List Bytes → AccountPath
+in_folder names = jobs (codes "00000002-0000-8000-8000-000000001000" ∷ names)
+
+-- ---- an upload of two parts
+
+-- begun, and its second part put before its first
+abbrev pub parted : List (Command Bytes)
+parted = NewUpload (stor (codes "u" ∷ [])) (codes "text/plain") 0 ∷ PutPart 0 1 (codes "llo") 0 ∷ PutPart 0 0 (codes "he") 0 ∷ []
+
+-- committed
+abbrev pub joined : List (Command Bytes)
+joined = parted ++ CommitUpload 0 (0x2000 ∷ 0x1000 ∷ []) (codes "hello") 0 ∷ []
+
+-- ---- an object with a durability and metadata, and a link to it
+
+-- a piece of metadata
+abbrev pub tagged : Field
+tagged = record { name = codes "m-a"; value = codes "1" }
+
+-- the object and the link
+abbrev pub marked : List (Command Bytes)
+marked = Put (stor (codes "a" ∷ [])) (codes "text/plain") (codes "x") (Some 3) (tagged ∷ []) 5 ∷ Link (stor (codes "b" ∷ [])) (stor (codes "a" ∷ [])) 7 ∷ []
+
+-- what an object says beside its body
+abbrev pub said_in : State Bytes → AccountPath → Option (Option ℕ × List Field × ℕ)
+said_in s p = option_map (λ o. (o.durability, o.metadata, o.mtime)) (object_at s.rows p)
+
+-- ---- two map phases, and reducers that records name
+
+-- an input through two map phases
+abbrev pub twice_mapped : List (Command Bytes)
+twice_mapped =
+    put (stor (codes "a" ∷ [])) (codes "x") ∷ job_of (phase Map (codes "cat") ∷ phase Map (codes "cat") ∷ []) ∷ post 0x1000 (stor (codes "a" ∷ []) ∷ [])
+    ∷ commit 0x1000 0 0 (wrote (codes "x")) ∷ commit 0x1000 1 0 (wrote (codes "x")) ∷ []
+
+-- three outputs of one task: for reducer 5, for none, for reducer 2
+abbrev pub named_reducers : List (Command Bytes)
+named_reducers =
+    put (stor (codes "a" ∷ [])) [] ∷ job_of (phase Map (codes "cat") ∷ phase (Reduce 2) (codes "cat") ∷ []) ∷ post 0x1000 (stor (codes "a" ∷ []) ∷ [])
+    ∷ commit 0x1000 0 0 (Good (Emit None (Some 5) (codes "p") ∷ Emit None None (codes "q") ∷ Emit None (Some 2) (codes "r") ∷ [])) ∷ EndInput 0x1000 0 ∷ []
+
+-- what its reducers read
+abbrev pub shared : State Bytes → ℕ → Option Bytes
+shared s reducer = option_map (λ j. input_of (λ bytes. bytes) (Reduce 2) (feed j 1) reducer) (job_at s.jobs 0x1000)

@@ -1,12 +1,12 @@
-//! Laws of the definitions: what holds over references holds over the bytes that they stand for, and each allowed
-//! command keeps a state lawful.
+//! Laws of the definitions: what holds over references holds over the bytes that they stand for, each allowed
+//! command keeps a state lawful, and finished jobs are what their phases mean.
 ghost use Rattle.std.specs.Prelude.{◌≡◌, ◌++◌, ℕ, Bool, List, Option, true};
 ghost use Rattle.mt_path.specs.AccountPath.{AccountPath, IsPath};
-ghost use Rattle.mt_types.specs.declared.command.Command.TheVariants.{Put, MakeDirectory, Link, Delete, NewJob, AddInputs, EndInput, Finish, Cancel, Close, NewUpload, PutPart, CommitUpload, AbortUpload};
+ghost use Rattle.mt_types.specs.declared.command.Command.TheVariants.{Put, MakeDirectory, Link, Delete, NewJob, AddInputs, EndInput, Commit, Finish, Cancel, Close, NewUpload, PutPart, CommitUpload, AbortUpload};
 ghost use Rattle.mt_types.specs.Limits.{is_index};
 ghost use Rattle.mt_types.specs.declared.body.Body.{Body};
 ghost use Rattle.mt_types.specs.declared.command.Archive.{Archive};
-ghost use Rattle.mt_types.specs.WellMade.{IsDocument};
+ghost use Rattle.mt_types.specs.WellMade.{IsDocument, IsWellMadeFate};
 ghost use Rattle.mt_types.specs.declared.document.InputLine.{InputLine};
 ghost use Rattle.mt_types.specs.declared.document.JobDocument.{JobDocument};
 ghost use Rattle.mt_types.specs.declared.object.Field.{Field};
@@ -16,9 +16,9 @@ ghost use Rattle.mt_types.specs.declared.task.Fate.{Fate};
 ghost use Rattle.mt_types.specs.declared.task.Raw.{Raw};
 ghost use Rattle.mt_model.specs.CommandStep.{replay};
 ghost use Rattle.mt_model.specs.Finished.{FinishedJobsMean};
-ghost use Rattle.mt_model.specs.Honest.{Bytes, HonestFrom};
+ghost use Rattle.mt_model.specs.Honest.{Bytes, Honest, HonestFrom};
 ghost use Rattle.mt_model.specs.State.{State, first_state};
-ghost use Rattle.mt_model.specs.Laws.{ReplayIsRead, AllowedIsRead, ListingIsRead, SizeIsRead, FeedIsRead, ShareIsRead, ReadyIsRead, FinishIsRead, RunIsRead, InputIsRead, ResolveIsRead, MeaningIsRead, StatesAgree, KeepsLawful, AllowedOfHeld, IsSharedOnce, ReplayGoesOn, RowsKeepLimits};
+ghost use Rattle.mt_model.specs.Laws.{ReplayIsRead, AllowedIsRead, ListingIsRead, SizeIsRead, FeedIsRead, ShareIsRead, ReadyIsRead, FinishIsRead, RunIsRead, InputIsRead, ResolveIsRead, MeaningIsRead, StatesAgree, KeepsLawful, AllowedOfHeld, HistoriesAreLawful, IsSharedOnce, ReplayGoesOn, RowsKeepLimits};
 
 /// A history over references does what the same history over bytes does, and is refused for the same causes.
 pub fn history_is_read()
@@ -80,6 +80,7 @@ pub fn commands_keep_lawful()
     ensures new_job { (document : JobDocument) (moment : ℕ) → IsDocument document → KeepsLawful (NewJob document moment) }
     ensures add_inputs { (job : ℕ) (lines : List InputLine) (moment : ℕ) → KeepsLawful (AddInputs job lines moment) }
     ensures end_input { (job moment : ℕ) → KeepsLawful (EndInput job moment) }
+    ensures commit { (job phase place : ℕ) (fate : Fate Body) (moment : ℕ) → IsWellMadeFate fate → KeepsLawful (Commit job phase place fate moment) }
     ensures finish { (job moment : ℕ) → KeepsLawful (Finish job moment) }
     ensures cancel { (job moment : ℕ) → KeepsLawful (Cancel job moment) }
     ensures close { (job : ℕ) (cancelled : Bool) (archive : Archive Body) (moment : ℕ) → KeepsLawful (Close job cancelled archive moment) }
@@ -87,6 +88,11 @@ pub fn commands_keep_lawful()
     ensures put_part { (upload index : ℕ) (body : Body) (moment : ℕ) → is_index index ≡ true → KeepsLawful (PutPart upload index body moment) }
     ensures commit_upload { (upload : ℕ) (parts : List ℕ) (body : Body) (moment : ℕ) → KeepsLawful (CommitUpload upload parts body moment) }
     ensures abort_upload { (upload moment : ℕ) → KeepsLawful (AbortUpload upload moment) }
+{}
+
+/// A history whose commands are well made and allowed leads from a lawful state to a lawful state.
+pub fn histories_are_lawful()
+    ensures { HistoriesAreLawful }
 {}
 
 /// What starts children.
@@ -107,8 +113,10 @@ pub fn finished_jobs_mean<P: Children>(children: &P)
     let _ = children;
 }
 
-/// Honest histories go on from where an honest one leads, and each front and each rest of one is honest.
+/// An honest history leaves a lawful state. Honest histories go on from where an honest one leads, and each front and
+/// each rest of one is honest.
 pub fn honest_histories<P: Children>(children: &P)
+    ensures lawful { (login : List ℕ) (fate_of : Raw → Fate Bytes) (h : List (Command Bytes)) → Honest login (P.gives children.now) fate_of h → Lawful (replay first_state h) }
     ensures grows { (login : List ℕ) (fate_of : Raw → Fate Bytes) (s : State Bytes) (h cs : List (Command Bytes))
         → HonestFrom login (P.gives children.now) fate_of s h → HonestFrom login (P.gives children.now) fate_of (replay s h) cs → HonestFrom login (P.gives children.now) fate_of s (h ++ cs) }
     ensures fronts { (login : List ℕ) (fate_of : Raw → Fate Bytes) (s : State Bytes) (h cs : List (Command Bytes))

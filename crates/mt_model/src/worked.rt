@@ -2,12 +2,12 @@
 ghost use Rattle.std.specs.Prelude.{◌≡◌, ℕ, List, [], ◌∷◌, ◌++◌, codes, length, map, reverse, Bool, true, false, Option, Some, None};
 ghost use Rattle.std.specs.Option.{option_map};
 ghost use Rattle.mt_path.specs.AccountPath.{AccountPath};
-ghost use Rattle.mt_types.specs.declared.command.Command.TheVariants.{MakeDirectory, Link, Delete, EndInput, Cancel};
+ghost use Rattle.mt_types.specs.declared.command.Command.TheVariants.{MakeDirectory, Link, Delete, EndInput, Cancel, Close, NewUpload, PutPart, CommitUpload, AbortUpload};
 ghost use Rattle.mt_types.specs.declared.document.InputLine.TheVariants.{Named};
 ghost use Rattle.mt_types.specs.declared.document.PhaseKind.TheVariants.{Map};
 ghost use Rattle.mt_types.specs.declared.job.Job.{Job};
 ghost use Rattle.mt_types.specs.declared.job.Outcome.TheVariants.{Bad};
-ghost use Rattle.mt_types.specs.declared.refusal.Refusal.TheVariants.{RootDirectory, DirectoryDoesNotExist, ParentNotDirectory, DirectoryOperation, EntityExists, NotFound, DirectoryNotEmpty, LinkNotFound, LinkNotObject, JobState, NotATask, AlreadyCommitted, NotComplete};
+ghost use Rattle.mt_types.specs.declared.refusal.Refusal.TheVariants.{RootDirectory, DirectoryDoesNotExist, ParentNotDirectory, DirectoryOperation, EntityExists, NotFound, DirectoryNotEmpty, LinkNotFound, LinkNotObject, JobState, NotATask, AlreadyCommitted, NotComplete, UploadNotFound, UploadPart, UploadState};
 ghost use Rattle.mt_types.specs.declared.task.TaskFailure.TheVariants.{TaskPlaceRefused, TaskObjectMissing};
 ghost use Rattle.mt_types.specs.declared.task.TaskRecord.TheVariants.{Emit, Keep, Ref};
 ghost use Rattle.mt_model.specs.CommandStep.{allowed};
@@ -19,7 +19,7 @@ ghost use Rattle.mt_model.specs.Feed.{feed};
 ghost use Rattle.mt_model.specs.Finished.{is_finished, live_out, outputs_of, recorded};
 ghost use Rattle.mt_model.specs.Honest.{Bytes, Honest};
 ghost use Rattle.mt_model.specs.Meaning.{Means, PhasesMean};
-ghost use Rattle.mt_model.specs.Worked.{cat_gives, judged, map_job_after, after, asked, begun, body_in, commit, complete, counted, counting, emptied, fed, finished, halfway, job_of, jobs, last_outcome, line, linked, mapped, names_in, nested, number_in, phase, post, put, reads, reduced, stor, three, wrote};
+ghost use Rattle.mt_model.specs.Worked.{closed, in_folder, joined, marked, named_reducers, parted, said_in, shared, tagged, texts, twice_mapped, cat_gives, judged, map_job_after, after, asked, begun, body_in, commit, complete, counted, counting, emptied, fed, finished, halfway, job_of, jobs, last_outcome, line, linked, mapped, names_in, nested, number_in, phase, post, put, reads, reduced, stor, three, wrote};
 
 /// What refuses a put of an object or of a directory.
 pub fn directory_refusals()
@@ -153,4 +153,51 @@ pub fn honest_map_job()
         ++ line (codes "/l/jobs/00000002-0000-8000-8000-000000001000/stor/a.0.00000003-0000-8000-8000-000000005000") }
     ensures other_order { let job : Job Bytes = map_job_after finished in
         PhasesMean job.document.phases job.inputs (recorded job) (reverse (outputs_of job)) → ⊥ }
+{}
+
+/// A job that is closed leaves five objects, numbered in the order of their names; its folder has six children.
+pub fn closed_job()
+    ensures numbers { map (number_in (after closed)) (map (λ n. in_folder (n ∷ [])) (codes "err.txt" ∷ codes "job.json" ∷ codes "out.txt" ∷ [])) ≡ Some 0x6000 ∷ Some 0x6003 ∷ Some 0x6004 ∷ [] }
+    ensures bodies { map (body_in (after closed)) (map (λ n. in_folder (n ∷ [])) (codes "err.txt" ∷ codes "fail.txt" ∷ codes "in.txt" ∷ codes "job.json" ∷ codes "out.txt" ∷ []))
+        ≡ Some (codes "e") ∷ Some (codes "f") ∷ Some (codes "i") ∷ Some (codes "s") ∷ Some (codes "o") ∷ [] }
+    ensures children { result_set_size (after closed).rows (in_folder []) ≡ 6 }
+    ensures early { allowed length (after halfway) (Close 0x1000 false texts 0) ≡ Some NotComplete }
+    ensures stopped { allowed length (after halfway) (Close 0x1000 true texts 0) ≡ None }
+    ensures again { allowed length (after closed) (Close 0x1000 true texts 0) ≡ Some JobState }
+{}
+
+/// Parts are numbered as they come and listed by their indexes; a commit lists each in its place, or none.
+pub fn upload_of_parts()
+    ensures number { number_in (after joined) (stor (codes "u" ∷ [])) ≡ Some 0x3000 }
+    ensures body { body_in (after joined) (stor (codes "u" ∷ [])) ≡ Some (codes "hello") }
+    ensures order { allowed length (after parted) (CommitUpload 0 (0x1000 ∷ 0x2000 ∷ []) (codes "llohe") 0) ≡ Some UploadPart }
+    ensures front { allowed length (after parted) (CommitUpload 0 (0x2000 ∷ []) (codes "he") 0) ≡ None }
+    ensures empty { allowed length (after parted) (CommitUpload 0 [] [] 0) ≡ None }
+    ensures other { allowed length (after parted) (PutPart 0x1000 0 [] 0) ≡ Some UploadNotFound }
+    ensures closed { map (allowed length (after joined)) (PutPart 0 0 [] 0 ∷ CommitUpload 0 [] [] 0 ∷ AbortUpload 0 0 ∷ []) ≡ Some UploadState ∷ Some UploadState ∷ Some UploadState ∷ [] }
+    ensures in_jobs { allowed length (after []) (NewUpload (jobs (codes "x" ∷ [])) [] 0) ≡ Some RootDirectory }
+{}
+
+/// A link has the durability and the metadata of its source, and its own moment.
+pub fn marks_of_links()
+    ensures source { said_in (after marked) (stor (codes "a" ∷ [])) ≡ Some (Some 3, tagged ∷ [], 5) }
+    ensures link { said_in (after marked) (stor (codes "b" ∷ [])) ≡ Some (Some 3, tagged ∷ [], 7) }
+{}
+
+/// The root of an input goes through two map phases.
+pub fn root_of_two_phases()
+    ensures outputs { fed (after twice_mapped) 0x1000 2 ≡ Some ((in_folder (codes "stor" ∷ codes "a.1.00000003-0000-8000-8000-000000004000" ∷ []), codes "x") ∷ []) }
+{}
+
+/// The reducers that records name are counted round; an output without one goes by its place.
+pub fn reducers_counted_round()
+    ensures even { shared (after named_reducers) 0 ≡ Some (codes "r") }
+    ensures odd { shared (after named_reducers) 1 ≡ Some (codes "pq") }
+{}
+
+/// A task makes no object over a directory, and of two records at one place the later one stands.
+pub fn places_of_tasks()
+    ensures directory { last_outcome (after (asked (Keep (stor (codes "d" ∷ codes "x" ∷ [])) [] ∷ Emit (Some (stor (codes "d" ∷ []))) None [] ∷ []))) 0x1000 ≡ Some (Bad TaskPlaceRefused 0 []) }
+    ensures later { body_in (after (asked (Keep (stor (codes "k" ∷ [])) (codes "1") ∷ Emit (Some (stor (codes "k" ∷ []))) None (codes "2") ∷ []))) (stor (codes "k" ∷ [])) ≡ Some (codes "2") }
+    ensures output { fed (after (asked (Keep (stor (codes "k" ∷ [])) (codes "1") ∷ Emit (Some (stor (codes "k" ∷ []))) None (codes "2") ∷ []))) 0x1000 1 ≡ Some ((stor (codes "k" ∷ []), codes "2") ∷ []) }
 {}

@@ -1,6 +1,6 @@
 use Rattle.std.proofs.Common.{ℕ}
 use Rattle.mt_types.specs.declared.body.Body.{Body}
-use Rattle.mt_model.proofs.LawfulSteps.{Lawful-abort_upload, Lawful-add_inputs, Lawful-cancel, Lawful-close, Lawful-delete, Lawful-end_input, Lawful-finish, Lawful-link, Lawful-make_directory, Lawful-new_job, Lawful-new_upload, Lawful-commit_upload, Lawful-put, Lawful-put_part}
+use Rattle.mt_model.proofs.LawfulSteps.{Lawful-abort_upload, Lawful-add_inputs, Lawful-cancel, Lawful-close, Lawful-commit, Lawful-delete, Lawful-end_input, Lawful-finish, Lawful-link, Lawful-make_directory, Lawful-new_job, Lawful-new_upload, Lawful-commit_upload, Lawful-put, Lawful-put_part}
 use Rattle.mt_model.proofs.laws.commands_keep_lawful.Goals as goal
 
 abbrev size : Body → ℕ
@@ -15,6 +15,7 @@ returns c = record {
   new_job = λ document moment is s law room e. Lawful-new_job size s law document moment is room e;
   add_inputs = λ job lines moment s law room e. Lawful-add_inputs size s law job lines moment e;
   end_input = λ job moment s law room e. Lawful-end_input size s law job moment e;
+  commit = λ job phase place fate moment made s law room e. Lawful-commit size s law job phase place fate moment made room e;
   finish = λ job moment s law room e. Lawful-finish size s law job moment e;
   cancel = λ job moment s law room e. Lawful-cancel size s law job moment e;
   close = λ job cancelled archive moment s law room e. Lawful-close size s law job cancelled archive moment room e;
