@@ -134,12 +134,13 @@ fn put_sent(
     let from = row.number(1)?;
     let to = row.number(2)?;
     let len = length_at(row, 3)?;
-    if log.is_closed() || len == 0 || from > to || to > body.len {
+    let most = length_at(row, 5)?;
+    if log.is_closed() || len == 0 || most == 0 || from > to || to > body.len {
         return Err(Stop::NoSuchRow);
     }
     let mut buffer = Vec::with_capacity(alloc, len)?;
     buffer.resize(len, 0)?;
-    let mut sink = MemSink::new(alloc, length_at(row, 4)?)?.at_most(length_at(row, 5)?);
+    let mut sink = MemSink::new(alloc, length_at(row, 4)?)?.at_most(most);
     let sent = send_body(log, disk, &mut sink, body, from, to, buffer.as_mut_slice());
     write!(out, "{sent:?} ")?;
     put_bytes(out, sink.written())?;

@@ -36,6 +36,7 @@ pub record Whole (body : Body) (left left' : Option (List ℕ)) (sum' : Md5) (se
   pub cut : IsCut pieces bytes
   pub taken : TakesMore seen log run pieces seen' run'
   pub len : body.len ≡ length bytes
+  pub digest : body.md5 ≡ md5 bytes
   pub stands : StandsBehind seen log run pieces body bytes
   pub next : run'.next ≡ run.next + pieces_size (length bytes)
   -- where the log was not over its limit before
