@@ -1,0 +1,36 @@
+//! `request_rows`: replies and pages, row by row. Its stored run is the table of the cases of `mt_error`, `mt_reply` and
+//! `mt_live`.
+//!
+//! - `replying`: replies, as they are written. `listing`: the lines of pages.
+//! - `codes`: errors by their names.
+#![tactic(auto)]
+
+mod codes;
+mod listing;
+mod replying;
+
+use mt_rows::{Row, Rows, Stop, print_table};
+use std::alloc::Global;
+use std::io;
+
+#[derive(Drop)]
+struct Requests;
+
+impl Rows for Requests {
+    fn answer(
+        &mut self,
+        alloc: Global,
+        _line: &str,
+        row: &Row,
+        out: &mut String,
+    ) -> Result<(), Stop> {
+        if replying::answer(alloc, row, out)? || listing::answer(alloc, row, out)? {
+            return Ok(());
+        }
+        Err(Stop::NoSuchRow)
+    }
+}
+
+fn main(rt: HostRuntime) -> io::Result<()> {
+    print_table(&rt, &mut Requests)
+}
