@@ -164,7 +164,7 @@ module _ (l n : Option (List ℕ)) (sum : Md5) (s t : Option Files) (log log' : 
       cut = b.cut;
       taken = b.taken;
       len = last.2 ∙ b.total_is;
-    digest = last.3 b.bytes b.digested;
+      digest = last.3 b.bytes b.digested;
       stands = stands body last.1 last.2 last.3;
       next = b.next;
       fits = λ before. split_len (length b.bytes) (λ none. omega (arith, b.next, none, before)) b.fits;
