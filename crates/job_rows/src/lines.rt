@@ -1,4 +1,6 @@
 //! Rows of `mt_split`.
+ghost use Rattle.std.specs.Prelude.{◌<◌, IfOk};
+
 use mt_base::Sequence;
 use mt_rows::{Row, Stop, put_escaped};
 use mt_split::{KeyRule, key_of, route, split};
@@ -26,7 +28,9 @@ fn count(number: u64) -> Result<u32, Stop> {
 }
 
 // How many reducers there are, one at least.
-fn reducers(row: &Row, place: usize) -> Result<u32, Stop> {
+fn reducers(row: &Row, place: usize) -> Result<u32, Stop>
+    ensures { IfOk result (λ n. 0 < n) }
+{
     let n = count(row.number(place)?)?;
     if n > 0 { Ok(n) } else { Err(Stop::NoSuchRow) }
 }
@@ -52,7 +56,9 @@ fn put_parts(
     n: u32,
     rule: &KeyRule,
     out: &mut String,
-) -> Result<(), Stop> {
+) -> Result<(), Stop>
+    requires { 0 < n }
+{
     if text.len() >= MOST {
         return Err(Stop::NoSuchRow);
     }
