@@ -61,7 +61,7 @@ pub fn append(
     log: &mut Log,
     payload: &[u8],
 ) -> Result<Result<u64, AppendError>, Stop> {
-    if payload.len() as u64 >= MOST {
+    if log.is_old() || payload.len() as u64 >= MOST {
         return Err(Stop::NoSuchRow);
     }
     Ok(log.append(disk, payload))

@@ -29,6 +29,7 @@ pub(crate) fn add_each<D: Disk>(
     count: u64,
 ) -> Result<(), AppendError>
     requires stands { Stands D.seen D.may_leave disk.old log.old }
+    requires version { log.old.closed ≡ false → log.old.is_old ≡ false }
     requires payload { length payload.now < 2 ^ 32 }
     ensures added { OnOk result (told (D.seen disk.new) ≡ with_payloads (replicate count payload.now) (told (D.seen disk.old))) }
     ensures stands { Stands D.seen D.may_leave disk.new log.new }

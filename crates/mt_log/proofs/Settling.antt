@@ -1,5 +1,5 @@
 -- How a disk stands while its log is looked for.
-use Rattle.std.proofs.Common.{◌≡◌, ◌≤◌, ◌<◌, ℕ, Bool, List, length, Option, Some, refl, sym, subst, ◌∙◌, ap, arith, false}
+use Rattle.std.proofs.Common.{◌≡◌, ◌≤◌, ◌<◌, ℕ, Bool, List, length, Option, Some, refl, sym, subst, ◌∙◌, ap, arith, false, true, []}
 use Rattle.std.proofs.lemmas.Option.{same_Some}
 use Rattle.mt_disk.specs.declared.disk.FileNo.{FileNo}
 use Rattle.mt_disk.specs.Files.{Files, contents}
@@ -7,10 +7,11 @@ use Rattle.mt_disk.specs.CrashModel.{LeavesOnly, Only, OnlyRead}
 use Rattle.mt_disk.proofs.Moments.{joins, leaves_now}
 use Rattle.mt_disk.proofs.Readings.{reads_leave}
 use Rattle.mt_log.specs.LogImage.{SameLog, chosen_file}
-use Rattle.mt_log.specs.LogState.{IsOpened, Settled}
+use Rattle.mt_log.specs.LogState.{IsOpened, Settled, told}
 use Rattle.mt_log.specs.Scan.{HasLog}
 use Rattle.mt_log.proofs.Made.{log_chosen}
-use Rattle.mt_log.proofs.Told.{some_of}
+use Rattle.mt_log.proofs.Told.{some_of, told_same}
+use Rattle.std.specs.Result.{result_unwrap_or}
 use Rattle.std.specs.Prelude.{is_some}
 
 pub same_self : (files : Files) → 0 < length files.head → SameLog files files
@@ -38,6 +39,11 @@ module _ {D : Type 0} (seen : D → Option Files) (may_leave : D → Files → T
     one_is = was.one_is;
     two_is = was.two_is;
   }
+
+  -- the payloads of a disk that was settled are those of before
+  pub settled_told : (old new : D) → is_some (seen new) ≡ is_some (seen old) → ((files : Files) → seen old ≡ Some files → Settled seen may_leave new files) → told (seen new) ≡ told (seen old)
+  settled_told old new tells settled =
+      told_same (seen old) (seen new) tells (λ files is. let at = settled files is in (at.now, at.seen_is, ap (λ r. result_unwrap_or r []) (at.same.same true)))
 
   -- the images of a disk at rest that is only read
   pub rest_read : (old new : D) (files : Files) → OnlyRead seen may_leave moment left_since old new → ((c : Files) → left_since old (moment old) c → may_leave old c) → Only files (may_leave old) → 0 < length files.head

@@ -3,6 +3,8 @@ use Rattle.std.proofs.Common.{◌≡◌, ℕ, List, is_some, true≢false, Optio
 use Rattle.std.proofs.lemmas.Option.{none-some, same_Some}
 use Rattle.mt_disk.specs.declared.disk.FileNo.{FileNo}
 use Rattle.mt_disk.specs.Files.{Files, contents, with_contents}
+use Rattle.mt_log.specs.LogImage.{payloads_of}
+use Rattle.mt_log.specs.LogState.{told}
 use Rattle.mt_log.specs.Stage.{changed}
 use Rattle.mt_disk.proofs.FileLemmas.{contents-with}
 
@@ -33,3 +35,11 @@ before old new file f files change is =
 pub some_of : {A B : Type 0} (o : Option A) (p : Option B) (x : B) → is_some p ≡ is_some o → p ≡ Some x → (y : A) × (o ≡ Some y)
 some_of None p x same is = absurd (true≢false (sym (ap is_some is) ∙ same))
 some_of (Some y) p x same is = (y, refl)
+
+-- the payloads are as they were where the files have the same
+pub told_same : (old new : Option Files) → is_some new ≡ is_some old → ((files : Files) → old ≡ Some files → (now : Files) × (new ≡ Some now) × (payloads_of now ≡ payloads_of files)) → told new ≡ told old
+told_same None None same at = refl
+told_same None (Some now) same at = absurd (true≢false same)
+told_same (Some files) new same at =
+    let after = at files refl in
+    ap told after.1 ∙ ap (λ (ps : List (List ℕ)). Some ps) after.2

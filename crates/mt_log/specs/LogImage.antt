@@ -22,9 +22,13 @@ abbrev pub magic_of : Bool → List ℕ
 magic_of true = old_magic
 magic_of false = log_magic
 
+-- how many bytes a log begins with
+abbrev pub magic_size : ℕ
+magic_size = 8
+
 -- the bytes of a log without a payload: the first eight and a gate
 abbrev pub empty_size : ℕ
-empty_size = 8 + 1
+empty_size = magic_size + 1
 
 -- what a record has beside its payload: gate, length and MD5
 abbrev pub record_head : ℕ
@@ -89,13 +93,13 @@ payloads_from (suc most) at (gate ∷ rest) =
 
 -- whether a file's first bytes are these
 abbrev pub begins_with : List ℕ → List ℕ → Bool
-begins_with magic bytes = pointwise nat_eq (take 8 bytes) magic
+begins_with magic bytes = pointwise nat_eq (take magic_size bytes) magic
 
 -- the payloads of a file, of either version
 unfoldable pub log_in : List ℕ → Result (List (List ℕ)) LogFault
 log_in bytes =
     if nat_lt (length bytes) empty_size then Err NotALog
-    else if begins_with log_magic bytes || begins_with old_magic bytes then payloads_from (length bytes) 8 (drop 8 bytes)
+    else if begins_with log_magic bytes || begins_with old_magic bytes then payloads_from (length bytes) magic_size (drop magic_size bytes)
     else Err NotALog
 
 -- whether a file is as long as a log, and begins as one of the old version

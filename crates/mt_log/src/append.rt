@@ -47,10 +47,11 @@ fn add_record<D: Disk>(
 }
 
 impl Log {
-    /// Adds a payload of fewer than 2 ^ 32 bytes, and gives its record's place. It makes six calls of the disk
-    /// and takes no memory. After `Disk` the log is closed, and is to be opened again.
+    /// Adds a payload of fewer than 2 ^ 32 bytes to a log of this version, and gives its record's place. It makes six calls of
+    /// the disk and takes no memory. After `Disk` the log is closed, and is to be opened again.
     pub fn append<D: Disk>(&mut self, disk: &mut D, payload: &[u8]) -> Result<u64, AppendError>
         requires stands { Stands D.seen D.may_leave disk.old self.old }
+        requires version { self.old.closed ≡ false → self.old.is_old ≡ false }
         requires payload { length payload.now < 2 ^ 32 }
 
         // The list of payloads gets this one, and nothing else changes it.

@@ -23,13 +23,14 @@ pub struct Log {
 
 impl Model for Log {
     ghost use Rattle.std.specs.Prelude.{◌<◌, ◌≤◌, ◌+◌, ◌^◌};
+    ghost use Rattle.mt_log.specs.LogImage.{magic_size};
     ghost use Rattle.mt_log.specs.LogState.{LogState};
 
     ghost Value = { LogState };
 
     ghost view = { λ l. record { file = l.file; gate = l.gate; limit = l.limit; closed = l.closed; is_old = l.is_old } };
 
-    ghost invariant = { λ l. (l.gate + 1 < 2 ^ 64) × (8 ≤ l.gate) };
+    ghost invariant = { λ l. (l.gate + 1 < 2 ^ 64) × (magic_size ≤ l.gate) };
 }
 
 impl Log {

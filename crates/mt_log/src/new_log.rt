@@ -4,7 +4,7 @@ ghost use Rattle.std.specs.Option.{ForSome};
 ghost use Rattle.mt_base.specs.Counts.{HasCause};
 ghost use Rattle.mt_disk.specs.declared.disk.FileNo.TheVariants.{One};
 ghost use Rattle.mt_disk.specs.CrashModel.{IsAtRest, LeavesOnly, Untouched};
-ghost use Rattle.mt_log.specs.LogImage.{Fit, SameLog};
+ghost use Rattle.mt_log.specs.LogImage.{Fit, SameLog, magic_size};
 ghost use Rattle.mt_log.specs.LogState.{Settled, Tells};
 ghost use Rattle.mt_log.specs.Stage.{empty_log, with_empty_log, with_one_named, IsHeadless, IsNaming};
 
@@ -58,7 +58,7 @@ pub(crate) fn make<D: Disk>(disk: &mut D) -> Result<(), DiskFault>
     requires rest { IsAtRest D.seen D.may_leave disk.old }
     requires empty { ForSome (D.seen disk.old) (λ files. files.head ≡ []) }
     requires fit { ForSome (D.seen disk.old) Fit }
-    ensures made { OnOk result (ForSome (D.seen disk.old) (λ files. Tells D.seen D.may_leave disk.new One 8 false [])) }
+    ensures made { OnOk result (ForSome (D.seen disk.old) (λ files. Tells D.seen D.may_leave disk.new One magic_size false [])) }
     ensures settled { OnOk result (ForSome (D.seen disk.old) (λ files. Settled D.seen D.may_leave disk.new files)) }
     ensures told { OnOk result (is_some (D.seen disk.new) ≡ is_some (D.seen disk.old)) }
     ensures any_moment { ForSome (D.seen disk.old) (λ files. LeavesOnly D.moment D.left_since disk.old disk.new (SameLog files)) }

@@ -1,12 +1,9 @@
 //! Opening the log of a disk, or making its first one.
-ghost use Rattle.std.specs.Prelude.{◌≡◌, ◌≢◌, ◌<◌, [], Bool, false, true, Err, is_some, length, IfOk, IsErrOf};
+ghost use Rattle.std.specs.Prelude.{◌≡◌, ◌<◌, [], Bool, false, true, length};
 ghost use Rattle.std.specs.Option.{ForSome};
-ghost use Rattle.mt_base.specs.Counts.{Rose, NeverFell};
-ghost use Rattle.mt_disk.specs.CrashModel.{IsAtRest, LeavesOnly};
-ghost use Rattle.mt_log.specs.LogImage.{Fit, SameLog, payloads, payloads_any, payloads_by};
-ghost use Rattle.mt_log.specs.LogState.{IsOpened, Settled, told};
+ghost use Rattle.mt_disk.specs.CrashModel.{IsAtRest};
+ghost use Rattle.mt_log.specs.LogImage.{Fit};
 ghost use Rattle.mt_log.specs.Opening.{Opens};
-ghost use Rattle.mt_log.specs.Scan.{OpensAs};
 
 use crate::choose::choose;
 use crate::log::{Log, MAGIC_LEN};
@@ -20,7 +17,7 @@ use std::alloc::Global;
 fn find<D: Disk>(alloc: Global, disk: &mut D, limit: u64, takes_old: bool) -> Result<Log, OpenError>
     requires rest { IsAtRest D.seen D.may_leave disk.old }
     requires head { ForSome (D.seen disk.old) (λ files. 0 < length files.head) }
-    ensures opens { Opens D.seen D.may_leave D.moment D.left_since D.faults takes_old limit disk.old disk.new result }
+    ensures { Opens D.seen D.may_leave D.moment D.left_since D.faults takes_old limit disk.old disk.new result }
 {
     let file = choose(disk)?;
     let found = scan(alloc, disk, file, takes_old)?;
@@ -38,7 +35,7 @@ fn begin<D: Disk>(disk: &mut D, limit: u64) -> Result<Log, OpenError>
     requires rest { IsAtRest D.seen D.may_leave disk.old }
     requires empty { ForSome (D.seen disk.old) (λ files. files.head ≡ []) }
     requires fit { ForSome (D.seen disk.old) Fit }
-    ensures opens { (any : Bool) → Opens D.seen D.may_leave D.moment D.left_since D.faults any limit disk.old disk.new result }
+    ensures { (any : Bool) → Opens D.seen D.may_leave D.moment D.left_since D.faults any limit disk.old disk.new result }
 {
     make(disk)?;
     Ok(Log {
@@ -59,7 +56,7 @@ fn open_by<D: Disk>(
 ) -> Result<Log, OpenError>
     requires rest { IsAtRest D.seen D.may_leave disk.old }
     requires fit { ForSome (D.seen disk.old) Fit }
-    ensures opens { Opens D.seen D.may_leave D.moment D.left_since D.faults takes_old limit disk.old disk.new result }
+    ensures { Opens D.seen D.may_leave D.moment D.left_since D.faults takes_old limit disk.old disk.new result }
 {
     if settle(disk)? == 0 {
         return begin(disk, limit);
@@ -73,18 +70,7 @@ impl Log {
     pub fn open<D: Disk>(alloc: Global, disk: &mut D, limit: u64) -> Result<Log, OpenError>
         requires rest { IsAtRest D.seen D.may_leave disk.old }
         requires fit { ForSome (D.seen disk.old) Fit }
-        ensures opened { IfOk result (λ log. IsOpened D.seen D.may_leave disk.new limit log) }
-        // The answer is what the files stand for, and a refusal is exactly the first fault.
-        ensures answer { ForSome (D.seen disk.old) (λ files. OpensAs result (payloads files)) }
-        ensures version { IfOk result (λ log. log.is_old ≡ false) }
-
-        // Opening changes no payload, also where it refuses, and a crash at any moment of it leaves the same ones.
-        ensures same { result ≢ Err OpenError.Disk → told (D.seen disk.new) ≡ told (D.seen disk.old) }
-        ensures settled { result ≢ Err OpenError.Disk → ForSome (D.seen disk.old) (λ files. Settled D.seen D.may_leave disk.new files) }
-        ensures any_moment { ForSome (D.seen disk.old) (λ files. LeavesOnly D.moment D.left_since disk.old disk.new (SameLog files)) }
-
-        ensures disk { IsErrOf result OpenError.Disk → Rose (D.faults disk.old) (D.faults disk.new) }
-        ensures faults { NeverFell (D.faults disk.old) (D.faults disk.new) }
+        ensures { Opens D.seen D.may_leave D.moment D.left_since D.faults false limit disk.old disk.new result }
     {
         open_by(alloc, disk, limit, false)
     }
@@ -93,13 +79,7 @@ impl Log {
     pub fn open_any<D: Disk>(alloc: Global, disk: &mut D, limit: u64) -> Result<Log, OpenError>
         requires rest { IsAtRest D.seen D.may_leave disk.old }
         requires fit { ForSome (D.seen disk.old) Fit }
-        ensures opened { IfOk result (λ log. IsOpened D.seen D.may_leave disk.new limit log) }
-        ensures answer { ForSome (D.seen disk.old) (λ files. OpensAs result (payloads_any files)) }
-        ensures same { result ≢ Err OpenError.Disk → told (D.seen disk.new) ≡ told (D.seen disk.old) }
-        ensures settled { result ≢ Err OpenError.Disk → ForSome (D.seen disk.old) (λ files. Settled D.seen D.may_leave disk.new files) }
-        ensures any_moment { ForSome (D.seen disk.old) (λ files. LeavesOnly D.moment D.left_since disk.old disk.new (SameLog files)) }
-        ensures disk { IsErrOf result OpenError.Disk → Rose (D.faults disk.old) (D.faults disk.new) }
-        ensures faults { NeverFell (D.faults disk.old) (D.faults disk.new) }
+        ensures { Opens D.seen D.may_leave D.moment D.left_since D.faults true limit disk.old disk.new result }
     {
         open_by(alloc, disk, limit, true)
     }

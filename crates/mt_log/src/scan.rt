@@ -5,7 +5,7 @@ ghost use Rattle.std.specs.Option.{ForSome};
 ghost use Rattle.mt_base.specs.Counts.{HasCause, Rose, NeverFell};
 ghost use Rattle.mt_disk.specs.Files.{contents};
 ghost use Rattle.mt_disk.specs.CrashModel.{OnlyRead};
-ghost use Rattle.mt_log.specs.LogImage.{LogFault, log_by, magic_of};
+ghost use Rattle.mt_log.specs.LogImage.{LogFault, empty_size, log_by, magic_of, magic_size, record_head};
 ghost use Rattle.mt_log.specs.Scan.{EndsWith, GateIs, HasLog, HasRecord, IsHead, IsOpenGate, IsWindow, StopsAt, Walked, fault_of, rest_at, OpensAs};
 
 use crate::log::{EMPTY_LEN, MAGIC_LEN, RECORD_HEAD};
@@ -66,19 +66,19 @@ pub(crate) fn length_of(bytes: &[u8]) -> u32
 // Reads a gate, a length and an MD5, and goes over them.
 fn read_head<D: Disk>(window: &mut Window, disk: &mut D) -> Result<RecordHead, DiskFault>
     requires window { ForSome (D.seen disk.old) (λ files. IsWindow files window.old) }
-    requires fits { window.old.at + 21 ≤ window.old.end }
+    requires fits { window.old.at + record_head ≤ window.old.end }
     ensures head { IfOk result (λ h. ForSome (D.seen disk.old) (λ files. IsHead (drop 1 (rest_at files window.old)) h.len h.sum)) }
-    ensures same { OnOk result (window.new ≡ record window.old { at = window.old.at + 21; held = window.new.held }) }
+    ensures same { OnOk result (window.new ≡ record window.old { at = window.old.at + record_head; held = window.new.held }) }
     ensures window { OnOk result (ForSome (D.seen disk.new) (λ files. IsWindow files window.new)) }
     ensures read { OnlyRead D.seen D.may_leave D.moment D.left_since disk.old disk.new }
     ensures cause { HasCause (D.faults disk.old) (D.faults disk.new) result }
 {
-    window.fill(disk, 21)?;
-    let front = window.front(21);
+    window.fill(disk, RECORD_HEAD as usize)?;
+    let front = window.front(RECORD_HEAD as usize);
     let len = length_of(&front[1..5]);
     let mut sum = [0; 16];
-    sum.copy_from_slice(&front[5..21]);
-    window.skip(21);
+    sum.copy_from_slice(&front[5..RECORD_HEAD as usize]);
+    window.skip(RECORD_HEAD as usize);
     Ok(RecordHead { len, sum })
 }
 
@@ -87,7 +87,7 @@ fn pass_record<D: Disk>(window: &mut Window, disk: &mut D) -> Result<(), OpenErr
     requires window { ForSome (D.seen disk.old) (λ files. IsWindow files window.old) }
     requires gate { ForSome (D.seen disk.old) (λ files. IsOpenGate (rest_at files window.old)) }
     ensures passed { OnOk result (ForSome (D.seen disk.old) (λ files. HasRecord (rest_at files window.old) (window.new.at - window.old.at))) }
-    ensures moved { OnOk result ((window.old.at + 21 ≤ window.new.at) × (window.new.at ≤ window.old.end)) }
+    ensures moved { OnOk result ((window.old.at + record_head ≤ window.new.at) × (window.new.at ≤ window.old.end)) }
     ensures refused { IfErr result (λ e. ForSome (D.seen disk.old) (λ files. (fault : LogFault) → fault_of e ≡ Some fault →
         EndsWith window.old.at (rest_at files window.old) (Err fault))) }
     ensures same { OnOk result (window.new ≡ record window.old { at = window.new.at; held = window.new.held }) }
@@ -147,24 +147,24 @@ fn walk<D: Disk>(window: &mut Window, disk: &mut D) -> Result<(), OpenError>
 fn version<D: Disk>(window: &mut Window, disk: &mut D) -> Result<bool, OpenError>
     requires window { ForSome (D.seen disk.old) (λ files. IsWindow files window.old) }
     requires front { window.old.at ≡ 0 }
-    requires long { 9 ≤ window.old.end }
-    ensures version { IfOk result (λ old. ForSome (D.seen disk.old) (λ files. take 8 (contents files window.old.file) ≡ magic_of old)) }
+    requires long { empty_size ≤ window.old.end }
+    ensures version { IfOk result (λ old. ForSome (D.seen disk.old) (λ files. take magic_size (contents files window.old.file) ≡ magic_of old)) }
     ensures refused { IfErr result (λ e. ForSome (D.seen disk.old) (λ files. (fault : LogFault) → fault_of e ≡ Some fault → (any : Bool) →
         log_by any (contents files window.old.file) ≡ Err fault)) }
-    ensures same { OnOk result (window.new ≡ record window.old { at = 8; held = window.new.held }) }
+    ensures same { OnOk result (window.new ≡ record window.old { at = magic_size; held = window.new.held }) }
     ensures window { OnOk result (ForSome (D.seen disk.new) (λ files. IsWindow files window.new)) }
     ensures read { OnlyRead D.seen D.may_leave D.moment D.left_since disk.old disk.new }
     ensures disk { IsErrOf result OpenError.Disk → Rose (D.faults disk.old) (D.faults disk.new) }
     ensures faults { NeverFell (D.faults disk.old) (D.faults disk.new) }
 {
-    window.fill(disk, 8)?;
-    let front = window.front(8);
+    window.fill(disk, MAGIC_LEN as usize)?;
+    let front = window.front(MAGIC_LEN as usize);
     let is_new = front == b"MTLOG002".as_slice();
     let is_old = front == b"MTLOG001".as_slice();
     if !is_new && !is_old {
         return Err(OpenError::NotALog);
     }
-    window.skip(8);
+    window.skip(MAGIC_LEN as usize);
     Ok(is_old)
 }
 
@@ -179,7 +179,7 @@ pub(crate) fn scan<D: Disk>(
     ensures answer { ForSome (D.seen disk.old) (λ files. OpensAs result (log_by takes_old (contents files file))) }
     ensures version { takes_old ≡ false → IfOk result (λ found. found.is_old ≡ false) }
     ensures small { IfOk result (λ found. found.gate + 1 < 2 ^ 64) }
-    ensures first { IfOk result (λ found. 8 ≤ found.gate) }
+    ensures first { IfOk result (λ found. magic_size ≤ found.gate) }
     ensures read { OnlyRead D.seen D.may_leave D.moment D.left_since disk.old disk.new }
     ensures disk { IsErrOf result OpenError.Disk → Rose (D.faults disk.old) (D.faults disk.new) }
     ensures faults { NeverFell (D.faults disk.old) (D.faults disk.new) }

@@ -14,7 +14,7 @@ pub struct Engine {
 }
 
 impl Model for Engine {
-    ghost use Rattle.std.specs.Prelude.{◌≤◌};
+    ghost use Rattle.std.specs.Prelude.{◌≡◌, ◌≤◌, false};
     ghost use Rattle.mt_server.specs.EngineState.{EngineState};
     ghost use Rattle.mt_types.specs.declared.limits.TheConstants.{MOST_COMMANDS};
 
@@ -22,5 +22,5 @@ impl Model for Engine {
 
     ghost view = { λ e. record { log = e.log; state = record { count = e.count; rows = e.rows.entries } } };
 
-    ghost invariant = { λ e. e.count ≤ MOST_COMMANDS };
+    ghost invariant = { λ e. (e.count ≤ MOST_COMMANDS) × (e.log.is_old ≡ false) };
 }

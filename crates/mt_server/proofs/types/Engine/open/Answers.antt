@@ -1,5 +1,5 @@
 -- The log was opened, and then read.
-use Rattle.std.proofs.Common.{◌≡◌, ap, sym, ◌∙◌, Err}
+use Rattle.std.proofs.Common.{◌≡◌, ap, refl, sym, ◌∙◌, Err}
 use Rattle.mt_server.specs.declared.opening.OpenEnd.TheVariants as OpenEnd
 use Rattle.mt_server.proofs.Openings.{opened_over, opened_readable, readable_after, refusal_is, refusal_not_disk, refused_before, refused_log}
 use Rattle.mt_server.proofs.types.Engine.open.Goals as goal
@@ -8,14 +8,14 @@ pub returns-in-Ok-load-clause-current : goal.returns-in-Ok-load-clause-current
 returns-in-Ok-load-clause-current g c =
     let d = g.D.Disk in
     opened_over (d.seen c.args.disk.now) (d.seen c.open.new.disk) (d.seen c.load.new.disk) c.load.new.self (c.in-Ok.ensures.same (λ e. cc e)) c.load.ensures.read.seen_same
-    (readable_after d.seen d.may_leave d.moment d.left_since c.args.disk.now c.open.new.disk c.in-Ok.log c.in-Ok.ensures.opened.stands c.in-Ok.ensures.opened.is_open c.in-Ok.ensures.version (c.in-Ok.ensures.settled (λ e. cc e)))
+    (readable_after d.seen d.may_leave d.moment d.left_since c.args.disk.now c.open.new.disk c.in-Ok.log c.in-Ok.ensures.opened.stands c.in-Ok.ensures.opened.is_open (c.in-Ok.ensures.version refl) (c.in-Ok.ensures.settled (λ e. cc e)))
     c.in-Ok-load.ensures.loaded
 
 pub returns-in-Ok-load-clause-opened : goal.returns-in-Ok-load-clause-opened
 returns-in-Ok-load-clause-opened g c =
     let d = g.D.Disk in
     opened_readable (d.seen c.args.disk.now) (d.seen c.open.new.disk) (d.seen c.load.new.disk) c.load.new.self (c.in-Ok.ensures.same (λ e. cc e)) c.load.ensures.read.seen_same
-    (readable_after d.seen d.may_leave d.moment d.left_since c.args.disk.now c.open.new.disk c.in-Ok.log c.in-Ok.ensures.opened.stands c.in-Ok.ensures.opened.is_open c.in-Ok.ensures.version (c.in-Ok.ensures.settled (λ e. cc e)))
+    (readable_after d.seen d.may_leave d.moment d.left_since c.args.disk.now c.open.new.disk c.in-Ok.log c.in-Ok.ensures.opened.stands c.in-Ok.ensures.opened.is_open (c.in-Ok.ensures.version refl) (c.in-Ok.ensures.settled (λ e. cc e)))
     c.in-Ok-load.ensures.small c.in-Ok-load.ensures.loaded
 
 pub returns-in-Err-load-clause-refused : goal.returns-in-Err-load-clause-refused
