@@ -5,7 +5,6 @@ use mt_edge::{Clock, LAST_MOMENT, ReadStep, Source, write_all};
 use std::alloc::Global;
 use std::fs::{File, OpenOptions};
 use std::io::{ErrorKind, Read, Write};
-use std::os::unix::fs::symlink;
 use std::test::Fail;
 use std::time::Duration;
 use std::{fs, io, time};
@@ -45,6 +44,8 @@ fn a_file_disk_keeps_what_is_written(rt: HostRuntime) -> Result<(), Fail> {
     assert!(rt; disk.sync(FileNo::One).is_ok());
     assert_eq!(rt; disk.faults(), 0);
 
+    // It is opened again when its owner is gone.
+    drop(disk);
     let mut into = [0; 5];
     let mut again = FileDisk::new(alloc, rt, &folder)?;
     assert_eq!(rt; again.len(FileNo::One), Ok(12));
@@ -71,24 +72,6 @@ fn a_call_that_does_not_fit_changes_nothing(rt: HostRuntime) -> Result<(), Fail>
     );
     assert_eq!(rt; disk.len(FileNo::One), Ok(6));
     assert_eq!(rt; disk.faults(), 3);
-    fs::remove_dir_all(&rt, &folder)?;
-    Ok(())
-}
-
-#[test]
-fn a_sync_that_failed_ends_the_disk(rt: HostRuntime) -> Result<(), Fail> {
-    let folder = scratch(&rt, "sync")?;
-    let head = format!(in rt.alloc(); "{folder}/head")?;
-    fs::create_dir(&rt, &folder)?;
-    // Linux can't sync this one.
-    symlink(&rt, "/dev/null", &head)?;
-    let mut disk = FileDisk::new(rt.alloc(), rt, &folder)?;
-    assert!(rt; disk.len(FileNo::One).is_err());
-    fs::remove_file(&rt, &head)?;
-    assert!(rt; disk.len(FileNo::One).is_err());
-    assert_eq!(rt; disk.faults(), 2);
-    let mut again = FileDisk::new(rt.alloc(), rt, &folder)?;
-    assert_eq!(rt; again.len(FileNo::One), Ok(0));
     fs::remove_dir_all(&rt, &folder)?;
     Ok(())
 }

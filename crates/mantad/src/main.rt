@@ -1,5 +1,10 @@
 //! `mantad`: the store over files, standard input and standard output. It makes the objects and calls `mt_server`.
+//!
+//! - `tell`: what is said on standard error. `standard`: its number and those of the other streams.
 #![tactic(auto)]
+
+mod standard;
+mod tell;
 
 ghost use Rattle.std.specs.Option.{ForSome};
 ghost use Rattle.mt_disk.specs.CrashModel.{IsAtRest};
@@ -9,10 +14,12 @@ use mt_adapters::{FileDisk, StdSink, StdSource, SystemClock};
 use mt_disk::{Disk, MemDisk, Room};
 use mt_edge::{Clock, FixedClock, NoDoor, NoSpawner};
 use mt_server::{Settings, SettingsError, mantad};
+use standard::Standard;
 use std::alloc::{AllocError, Global};
 use std::env;
 use std::io::ErrorKind;
 use std::process::ExitCode;
+use tell::{tell_status, tell_usage};
 
 /// The status where memory is wanted before the store is called.
 const OUT_OF_MEMORY: u8 = 8;
@@ -73,12 +80,15 @@ fn run(rt: HostRuntime) -> Result<u8, AllocError> {
     match Settings::read(alloc, &words) {
         Ok(settings) => {
             let mut disk = FileDisk::new(alloc, rt, settings.store.as_str())?;
-            match settings.at {
-                Some(moment) => call(rt, &words, &mut disk, &mut FixedClock::new(moment)),
-                None => call(rt, &words, &mut disk, &mut SystemClock::new(rt)),
-            }
+            let status = match settings.at {
+                Some(moment) => call(rt, &words, &mut disk, &mut FixedClock::new(moment))?,
+                None => call(rt, &words, &mut disk, &mut SystemClock::new(rt))?,
+            };
+            tell_status(&rt, status, settings.store.as_str(), disk.failure());
+            Ok(status)
         }
         Err(SettingsError::Usage) => {
+            tell_usage(&rt, alloc, &words)?;
             let mut disk = MemDisk::new(alloc, b"", b"", b"", NO_STORE, &[])?;
             call(rt, &words, &mut disk, &mut FixedClock::new(0))
         }
@@ -87,5 +97,13 @@ fn run(rt: HostRuntime) -> Result<u8, AllocError> {
 }
 
 fn main(rt: HostRuntime) -> ExitCode {
-    ExitCode::from(run(rt).unwrap_or(OUT_OF_MEMORY))
+    // Where a number can't be held, none is free.
+    let _held = Standard::hold(&rt);
+    match run(rt) {
+        Ok(status) => ExitCode::from(status),
+        Err(AllocError) => {
+            tell_status(&rt, OUT_OF_MEMORY, "", None);
+            ExitCode::from(OUT_OF_MEMORY)
+        }
+    }
 }

@@ -1,4 +1,7 @@
 //! Why the words of the command line ask for nothing.
+ghost use Rattle.std.specs.Prelude.{◌≡◌, true, Some};
+ghost use Rattle.mt_settings.specs.Words.{option_named};
+
 use std::alloc::AllocError;
 
 /// An option of a command.
@@ -22,6 +25,25 @@ pub enum OptionName {
     Connections,
     /// `--listen`: the address that is listened at.
     Listen,
+}
+
+impl OptionName {
+    /// The word that names it.
+    pub fn text(self) -> &'static str
+        ensures { option_named true result.now ≡ Some self }
+    {
+        match self {
+            OptionName::Login => "--login",
+            OptionName::Store => "--store",
+            OptionName::Slots => "--slots",
+            OptionName::LogLimit => "--log-limit",
+            OptionName::Work => "--work",
+            OptionName::Helper => "--helper",
+            OptionName::At => "--at",
+            OptionName::Connections => "--connections",
+            OptionName::Listen => "--listen",
+        }
+    }
 }
 
 /// The first fault of the words, from their front; the words behind the command are counted from 0.

@@ -1,0 +1,99 @@
+//! What the program says on standard error: the word that is wrong, and the cause of each status above 2.
+use mt_adapters::Failure;
+use mt_settings::{Settings, SettingsError, UsageFault};
+use std::alloc::{AllocError, Global};
+
+// A line. Nothing is to be done where it can't be written.
+fn say(rt: &HostRuntime, line: &str) {
+    let _ = eprintln!(rt; "mantad: {line}");
+}
+
+/// Says why the store ended with a status above 2.
+pub(crate) fn tell_status(rt: &HostRuntime, status: u8, store: &str, failure: Option<&Failure>) {
+    match status {
+        0 | 1 | 2 => {}
+        3 => say(rt, "standard input can't be read"),
+        4 => say(rt, "standard output can't be written to"),
+        5 => tell_disk(rt, store, failure),
+        8 => say(rt, "out of memory"),
+        11 => say(rt, "standard input ends within a request"),
+        12 => say(
+            rt,
+            "what stands on standard input is no request, or its body is too long",
+        ),
+        13 => say(
+            rt,
+            "one session answers no more requests; what follows was not read",
+        ),
+        _ => {
+            let _ = eprintln!(rt; "mantad: status {status}");
+        }
+    }
+}
+
+fn tell_disk(rt: &HostRuntime, store: &str, failure: Option<&Failure>) {
+    match failure {
+        Some(failure) => {
+            let _ = eprintln!(rt; "mantad: the store {store}: {failure}");
+        }
+        None => {
+            let _ = eprintln!(rt; "mantad: the store {store}: a call failed");
+        }
+    }
+}
+
+/// Says which word is wrong.
+pub(crate) fn tell_usage(
+    rt: &HostRuntime,
+    alloc: Global,
+    words: &[String],
+) -> Result<(), AllocError> {
+    match Settings::read(alloc, words) {
+        Ok(_) => say(
+            rt,
+            "`serve`, `--slots`, `--work` and `--helper` are not built yet",
+        ),
+        Err(SettingsError::Usage(fault)) => tell_fault(rt, words, fault),
+        Err(SettingsError::Memory) => return Err(AllocError),
+    }
+    say(rt, "`./mantad --help` tells the words");
+    Ok(())
+}
+
+// A word behind the command.
+fn word(words: &[String], place: usize) -> &str {
+    match words.get(place.saturating_add(1)) {
+        Some(word) => word.as_str(),
+        None => "",
+    }
+}
+
+fn tell_fault(rt: &HostRuntime, words: &[String], fault: UsageFault) {
+    let _ = match fault {
+        UsageFault::NoCommand => eprintln!(rt; "mantad: there is no command"),
+        UsageFault::UnknownCommand => match words.first() {
+            Some(command) => eprintln!(rt; "mantad: `{}` is no command", command.as_str()),
+            None => eprintln!(rt; "mantad: there is no command"),
+        },
+        UsageFault::UnknownOption { word: place } => {
+            eprintln!(rt;
+                "mantad: `{}` is no option of this command",
+                word(words, place)
+            )
+        }
+        UsageFault::NoValue { word: place } => {
+            eprintln!(rt; "mantad: `{}` has no value", word(words, place))
+        }
+        UsageFault::Twice { word: place } => {
+            eprintln!(rt; "mantad: `{}` stands twice", word(words, place))
+        }
+        UsageFault::BadValue { word: place } => {
+            eprintln!(rt;
+                "mantad: `{}` is no value of `{}`",
+                word(words, place),
+                word(words, place.saturating_sub(1))
+            )
+        }
+        UsageFault::Missing(option) => eprintln!(rt; "mantad: `{}` is missing", option.text()),
+    };
+}
