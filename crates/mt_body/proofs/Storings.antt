@@ -1,6 +1,6 @@
 -- Pieces of a body that are added to a run one after another, and each end of it.
 use Rattle.std.proofs.Common.{◌≡◌, ◌≢◌, ◌⊎◌, ⊎_elim, ◌<◌, ◌≤◌, ℕ, zero, suc, ◌+◌, ◌-◌, ◌*◌, ◌/◌, Bool, true, false, if◌then◌else◌, List, [], ◌∷◌, ◌++◌, length, Option, Some, None, is_some, refl, sym, ◌∙◌, ap, subst, arith, length-append, append_assoc, append-nil}
-use Rattle.std.specs.Prelude.{nat_le}
+use Rattle.std.specs.Prelude.{IsTrue, ◌==◌, nat_le}
 use Rattle.std.specs.Option.{ForSome}
 use Rattle.std.proofs.lemmas.Bool.Decides.{nat_tests}
 use Rattle.md5.specs.Md5.{Holds, md5}
@@ -10,6 +10,7 @@ use Rattle.mt_disk.specs.Files.{Files}
 use Rattle.mt_disk.specs.CrashModel.{LeavesOnly}
 use Rattle.mt_edge.specs.Stream.{LeftAfter}
 use Rattle.mt_edge.proofs.Streams.{left_after, left_all}
+use Rattle.mt_types.specs.Limits.{is_placed}
 use Rattle.mt_types.specs.declared.body.Body.{Body}
 use Rattle.mt_log.specs.LogImage.{IsBeforeOrAfter, payloads_of}
 use Rattle.mt_log.specs.LogState.{LogState, told}
@@ -145,6 +146,16 @@ module _ (l m n : Option (List ℕ)) (sum sum' : Md5) (s t u : Option Files) (lo
   pub broken : (piece : List ℕ) (log' : LogState) → LeftAfter m piece n → Holds sum' (b.bytes ++ piece) → log' ≡ record log { closed = true } → Broken l n sum' log log'
   broken piece log' took digested closed = record { bytes = b.bytes ++ piece; took = left_after l b.bytes m piece n b.took took; digested = digested; closed = closed }
 
+-- a body without bytes has the place 0
+placed_by : (body : Body) → (body.len ≡ 0 → body.first ≡ 0) → IsTrue (is_placed body)
+placed_by body none = split_len body.len (λ is. if_none body.len body.first is (none is)) (λ some. if_some body.len body.first some)
+  where
+    if_none : (len first : ℕ) → len ≡ 0 → first ≡ 0 → (if len == 0 then first == 0 else true) ≡ true
+    if_none len first is at = grind (arith, nat_tests, is, at)
+
+    if_some : (len first : ℕ) → 0 < len → (if len == 0 then first == 0 else true) ≡ true
+    if_some len first some = grind (arith, nat_tests, some)
+
 module _ (l n : Option (List ℕ)) (sum : Md5) (s t : Option Files) (log log' : LogState) (r0 r1 : RunState) (total first : ℕ) (b : Begun l n sum s t log r0 r1 total first) where
   stands : (body : Body) → body.first ≡ first → body.len ≡ total → ((bytes : List ℕ) → Holds sum bytes → body.md5 ≡ md5 bytes) → StandsBehind s log r0 b.pieces body b.bytes
   stands body at len sums = λ ps records is had.
@@ -164,6 +175,7 @@ module _ (l n : Option (List ℕ)) (sum : Md5) (s t : Option Files) (log log' : 
       cut = b.cut;
       taken = b.taken;
       len = last.2 ∙ b.total_is;
+      placed = placed_by body (λ none. last.1 ∙ b.none (sym last.2 ∙ none));
       digest = last.3 b.bytes b.digested;
       stands = stands body last.1 last.2 last.3;
       next = b.next;

@@ -1,5 +1,5 @@
 -- How a body is stored from a source in a run of records.
-use Rattle.std.specs.Prelude.{◌≡◌, ◌≢◌, ℕ, ◌+◌, ◌≤◌, ◌<◌, true, List, ◌++◌, length, Option, Some}
+use Rattle.std.specs.Prelude.{◌≡◌, ◌≢◌, ℕ, ◌+◌, ◌≤◌, ◌<◌, true, IsTrue, List, ◌++◌, length, Option, Some}
 use Rattle.md5.specs.Md5.{Holds, md5}
 use Rattle.md5.specs.declared.Md5.{Md5}
 use Rattle.mt_base.specs.Lists.{IsPrefixOf}
@@ -7,6 +7,7 @@ use Rattle.mt_disk.specs.Files.{Files}
 use Rattle.mt_edge.specs.Stream.{LeftAfter}
 use Rattle.mt_log.specs.LogState.{LogState, told}
 use Rattle.mt_log.specs.RunState.{HasTaken, RunState}
+use Rattle.mt_types.specs.Limits.{is_placed}
 use Rattle.mt_types.specs.declared.body.Body.{Body}
 use Rattle.mt_body.specs.Filling.{AtEnd}
 use Rattle.mt_body.specs.Stored.{IsCut, IsStored, bytes_of, pieces_size, pieces_that_fit}
@@ -36,6 +37,7 @@ pub record Whole (body : Body) (left left' : Option (List ℕ)) (sum' : Md5) (se
   pub cut : IsCut pieces bytes
   pub taken : TakesMore seen log run pieces seen' run'
   pub len : body.len ≡ length bytes
+  pub placed : IsTrue (is_placed body)
   pub digest : body.md5 ≡ md5 bytes
   pub stands : StandsBehind seen log run pieces body bytes
   pub next : run'.next ≡ run.next + pieces_size (length bytes)
