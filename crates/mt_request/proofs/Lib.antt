@@ -1,0 +1,4 @@
+pub mod Digests
+pub mod Limits
+pub mod Ordered
+pub mod Types

@@ -1,0 +1,9 @@
+pub mod Digest
+pub mod Kind
+pub mod Laws
+pub mod Metadata
+pub mod Order
+pub mod Puts
+pub mod Query
+pub mod Requests
+pub mod Target

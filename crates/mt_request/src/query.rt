@@ -1,0 +1,84 @@
+//! The query of a request target.
+ghost use Rattle.std.specs.Prelude.{◌≡◌, ◌==◌, ◌<◌, length, position, IfOk, IfSome};
+ghost use Rattle.std.specs.Option.{option_copied};
+ghost use Rattle.mt_path.specs.Names.{question_mark};
+ghost use Rattle.mt_request.specs.Query.{first_pair, limit_in, page_of, query_of};
+
+use mt_base::{Bytes, Text};
+use mt_bytes::read_decimal;
+use std::alloc::{AllocError, Global};
+
+/// A page has at most so many rows.
+const LARGEST_PAGE: u64 = 1_024;
+
+/// A page has so many rows where it isn't said.
+const USUAL_PAGE: u64 = 256;
+
+/// The page of a directory that a query asks for.
+#[derive(Debug, PartialEq, Eq, Drop)]
+pub struct Page {
+    /// The name that it begins with, or the next one.
+    pub marker: Bytes,
+    /// How many rows it has at most, 1 to 1,024.
+    pub limit: u64,
+}
+
+/// What stands behind the first `?` of a target.
+pub fn query_of(target: &[u8]) -> &[u8]
+    ensures { result.now ≡ query_of target.now }
+{
+    match query_at(target) {
+        Some(place) => &target[place + 1..],
+        None => &[],
+    }
+}
+
+// The place of the first question mark.
+fn query_at(target: &[u8]) -> Option<usize>
+    ensures place { result ≡ position (λ b. b == question_mark) target.now }
+    ensures within { IfSome result (λ place. place < length target.now) }
+{
+    target.iter().position(|b| *b == b'?')
+}
+
+// The value of the first pair of a name.
+fn first_pair(alloc: Global, name: &str, query: &[u8]) -> Result<Option<Text>, AllocError>
+    ensures { IfOk result (λ value. value ≡ first_pair name.now query.now) }
+{
+    for pair in form_urlencoded::parse(alloc, query) {
+        let (key, value) = pair?;
+        if key.as_str() == name {
+            return Ok(Some(Text::from_string(value.into_owned(alloc)?)));
+        }
+    }
+    Ok(None)
+}
+
+// The most rows of a page; none where a value is no limit.
+fn limit_in(value: Option<&Text>) -> Option<u64>
+    ensures { result ≡ limit_in (option_copied value.entry) }
+{
+    match value {
+        None => Some(USUAL_PAGE),
+        Some(text) => match read_decimal(text.as_bytes()) {
+            Some(n) if 1 <= n && n <= LARGEST_PAGE => Some(n),
+            _ => None,
+        },
+    }
+}
+
+/// The page that a query asks for; none where its limit isn't 1 to 1,024.
+#[tactic(auto, unfolding(crate::specs::Query::page_of))]
+pub fn page_of(alloc: Global, query: &[u8]) -> Result<Option<Page>, AllocError>
+    ensures { IfOk result (λ page. page ≡ page_of query.now) }
+{
+    let limit = first_pair(alloc, "limit", query)?;
+    let Some(limit) = limit_in(limit.as_ref()) else {
+        return Ok(None);
+    };
+    let marker = match first_pair(alloc, "marker", query)? {
+        Some(text) => Bytes::from_slice(alloc, text.as_bytes())?,
+        None => Bytes::from_vec(Vec::new(alloc)),
+    };
+    Ok(Some(Page { marker, limit }))
+}
