@@ -1,10 +1,11 @@
-//! `request_rows`: replies and pages, row by row. Its stored run is the table of the cases of `mt_error`, `mt_reply` and
-//! `mt_live`.
+//! `request_rows`: requests, replies and pages, row by row. Its stored run is the table of the cases of `mt_error`,
+//! `mt_request`, `mt_reply` and `mt_live`.
 //!
-//! - `replying`: replies, as they are written. `listing`: the lines of pages.
+//! - `asking`: heads read into what they ask for. `replying`: replies, as they are written. `listing`: the lines of pages.
 //! - `codes`: errors by their names.
 #![tactic(auto)]
 
+mod asking;
 mod codes;
 mod listing;
 mod replying;
@@ -24,7 +25,10 @@ impl Rows for Requests {
         row: &Row,
         out: &mut String,
     ) -> Result<(), Stop> {
-        if replying::answer(alloc, row, out)? || listing::answer(alloc, row, out)? {
+        if asking::answer(alloc, row, out)?
+            || replying::answer(alloc, row, out)?
+            || listing::answer(alloc, row, out)?
+        {
             return Ok(());
         }
         Err(Stop::NoSuchRow)
