@@ -1,0 +1,167 @@
+//! The rows that end a run with a command, or without.
+ghost use Rattle.std.specs.Prelude.{◌≡◌, IfOk, IsTrue};
+ghost use Rattle.mt_codec.specs.Spelling.{IsWithinLimits};
+ghost use Rattle.mt_types.specs.Kinds.{OnRows, kind_of};
+ghost use Rattle.mt_types.specs.Limits.{is_moment};
+
+use crate::untold::Untold;
+use md5::{Digest, Md5};
+use mt_body::Storing;
+use mt_edge::MemSource;
+use mt_engine::{Accepted, Engine};
+use mt_log::Run;
+use mt_rows::{Row, Stop};
+use mt_types::{Body, Command, Fields, LAST_MOMENT, Path, Text, is_content_type};
+use std::alloc::{AllocError, Global};
+
+/// The most bytes of a body.
+const MOST: u64 = 200_000;
+
+/// The path of a text of the login `l`.
+pub fn path_at(alloc: Global, row: &Row, place: usize) -> Result<Path, Stop> {
+    match Path::plain(alloc, "l", row.bytes(place)?) {
+        Ok(path) => Ok(path),
+        Err(_) => Err(Stop::NoSuchRow),
+    }
+}
+
+// A moment that a command may have.
+fn moment_at(row: &Row, place: usize) -> Result<u64, Stop>
+    ensures { IfOk result (λ m. IsTrue (is_moment m)) }
+{
+    match row.number(place)? {
+        moment if moment <= LAST_MOMENT => Ok(moment),
+        _ => Err(Stop::NoSuchRow),
+    }
+}
+
+// So many bytes, no two pieces of which are alike.
+fn pattern(alloc: Global, len: usize) -> Result<Vec<u8>, AllocError> {
+    let mut bytes = Vec::with_capacity(alloc, len)?;
+    for i in 0..len {
+        bytes.push(((i % 251) ^ (i / 256 % 256)) as u8)?;
+    }
+    Ok(bytes)
+}
+
+// A put of a body as a text.
+fn put_of(alloc: Global, path: Path, body: Body, moment: u64) -> Result<Command<Body>, Stop>
+    requires { IsTrue (is_moment moment) }
+    ensures kind { IfOk result (λ c. kind_of c ≡ OnRows) }
+    ensures limits { IfOk result (λ c. IsWithinLimits c) }
+{
+    let content_type = Text::from_str(alloc, "text/plain")?;
+    if !is_content_type(content_type.as_bytes()) || (body.len == 0 && body.first != 0) {
+        return Err(Stop::NoSuchRow);
+    }
+    Ok(Command::Put {
+        path,
+        content_type,
+        body,
+        durability: None,
+        metadata: Fields::new(alloc),
+        moment,
+    })
+}
+
+// `put PATH COUNT MOMENT READ..`: so many bytes, of a source whose reads of these numbers fail.
+fn put(
+    alloc: Global,
+    disk: &mut Untold,
+    engine: &mut Engine,
+    row: &Row,
+    out: &mut String,
+) -> Result<(), Stop> {
+    let len = row.number(2)?;
+    if engine.is_closed() || engine.is_old() || len > MOST {
+        return Err(Stop::NoSuchRow);
+    }
+    let path = path_at(alloc, row, 1)?;
+    let moment = moment_at(row, 3)?;
+    let bytes = pattern(alloc, len as usize)?;
+    let mut source = MemSource::new(alloc, bytes).failing(row.numbers(alloc, 4)?);
+    let mut sum = Md5::new();
+    let mut run = engine.begin_run(disk);
+    match engine.store_body(alloc, disk, &mut run, &mut source, &mut sum) {
+        Storing::Stored(body) => {
+            let command = put_of(alloc, path, body, moment)?;
+            let answer = engine.accept(alloc, disk, run, command);
+            write!(out, "{answer:?}")?;
+        }
+        other => {
+            write!(out, "{other:?}")?;
+            if !engine.is_closed() {
+                let end = engine.end_run(disk, run);
+                write!(out, ", {end:?}")?;
+            }
+        }
+    }
+    Ok(())
+}
+
+// A command without a body.
+fn accept(
+    alloc: Global,
+    disk: &mut Untold,
+    engine: &mut Engine,
+    command: Command<Body>,
+    out: &mut String,
+) -> Result<(), Stop>
+    requires kind { kind_of command ≡ OnRows }
+    requires limits { IsWithinLimits command }
+{
+    if engine.is_old() {
+        return Err(Stop::NoSuchRow);
+    }
+    let run = engine.begin_run(disk);
+    let answer = engine.accept(alloc, disk, run, command);
+    write!(out, "{answer:?}")?;
+    Ok(())
+}
+
+/// Answers a row of this module; `false` for another row.
+pub fn answer(
+    alloc: Global,
+    disk: &mut Untold,
+    engine: &mut Engine,
+    row: &Row,
+    out: &mut String,
+) -> Result<bool, Stop> {
+    match row.call() {
+        b"put" => put(alloc, disk, engine, row, out)?,
+        b"directory" => {
+            let path = path_at(alloc, row, 1)?;
+            let moment = moment_at(row, 2)?;
+            accept(
+                alloc,
+                disk,
+                engine,
+                Command::MakeDirectory { path, moment },
+                out,
+            )?;
+        }
+        b"link" => {
+            let path = path_at(alloc, row, 1)?;
+            let source = path_at(alloc, row, 2)?;
+            let moment = moment_at(row, 3)?;
+            accept(
+                alloc,
+                disk,
+                engine,
+                Command::Link {
+                    path,
+                    source,
+                    moment,
+                },
+                out,
+            )?;
+        }
+        b"delete" => {
+            let path = path_at(alloc, row, 1)?;
+            let moment = moment_at(row, 2)?;
+            accept(alloc, disk, engine, Command::Delete { path, moment }, out)?;
+        }
+        _ => return Ok(false),
+    }
+    Ok(true)
+}

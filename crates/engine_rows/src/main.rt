@@ -1,0 +1,20 @@
+//! `engine_rows`: commands that are added to an engine, its bodies, its openings and its stops, row by row. Its stored run is their
+//! table of cases.
+//!
+//! - `state`: the disk and the engine that rows speak of. `commands`: the rows that end a run. `look`: what stands and what is sent.
+//! - `stops`: sessions whose disk fails, and what a crash leaves of them. `untold`: a disk in memory whose calls fail by their numbers.
+#![tactic(auto)]
+
+mod commands;
+mod look;
+mod state;
+mod stops;
+mod untold;
+
+use mt_rows::print_table;
+use state::Engines;
+use std::io;
+
+fn main(rt: HostRuntime) -> io::Result<()> {
+    print_table(&rt, &mut Engines::new(rt.alloc()))
+}

@@ -1,0 +1,144 @@
+//! The disk and the engine that rows speak of.
+use crate::stops::put_stop;
+use crate::untold::{Untold, picks_of};
+use crate::{commands, look};
+use mt_disk::FileNo;
+use mt_engine::Engine;
+use mt_rows::{Row, Rows, Stop};
+use std::alloc::Global;
+
+/// An engine over a disk, and the steps of a session that is stopped.
+#[derive(Drop)]
+pub struct Engines {
+    disk: Option<Untold>,
+    engine: Option<Engine>,
+    steps: Vec<Row>,
+}
+
+/// Opens the engine of a disk under a limit, and prints its length and its position, or why it isn't opened.
+pub fn opened(
+    alloc: Global,
+    disk: &mut Untold,
+    limit: u64,
+    out: &mut String,
+) -> Result<Option<Engine>, Stop> {
+    match Engine::open(alloc, disk, limit) {
+        Ok(engine) => {
+            write!(
+                out,
+                "Ok, log {}, position {}",
+                engine.used(),
+                engine.position()
+            )?;
+            Ok(Some(engine))
+        }
+        Err(end) => {
+            write!(out, "{end:?}")?;
+            Ok(None)
+        }
+    }
+}
+
+// Where the engine is after a row, and how many calls of the disk the row made.
+fn put_after(engine: &Engine, calls: u64, out: &mut String) -> Result<(), Stop> {
+    if engine.is_closed() {
+        out.push_str("; closed")?;
+    } else {
+        write!(
+            out,
+            "; log {}, position {}",
+            engine.used(),
+            engine.position()
+        )?;
+    }
+    write!(out, "; calls {calls}")?;
+    Ok(())
+}
+
+impl Engines {
+    /// No disk yet.
+    pub fn new(alloc: Global) -> Engines {
+        Engines {
+            disk: None,
+            engine: None,
+            steps: Vec::new(alloc),
+        }
+    }
+
+    // A row of the disk that is there.
+    fn call(&mut self, alloc: Global, row: &Row, out: &mut String) -> Result<(), Stop> {
+        let Some(disk) = &mut self.disk else {
+            return Err(Stop::NoSuchRow);
+        };
+        match row.call() {
+            b"open" => {
+                self.engine = opened(alloc, disk, row.number(1)?, out)?;
+                return Ok(());
+            }
+            b"fail" => {
+                disk.fail(row.numbers(alloc, 1)?);
+                return Ok(());
+            }
+            b"one" => {
+                look::put_bytes(out, disk.file(FileNo::One))?;
+                return Ok(());
+            }
+            b"stop" => {
+                let picks = picks_of(alloc, row, 3)?;
+                let copy = Untold::over(alloc, disk)?;
+                return put_stop(
+                    alloc,
+                    copy,
+                    row.number(1)?,
+                    row.number(2)?,
+                    &self.steps,
+                    &picks,
+                    out,
+                );
+            }
+            _ => {}
+        }
+        let Some(engine) = &mut self.engine else {
+            return Err(Stop::NoSuchRow);
+        };
+        let before = disk.made();
+        if commands::answer(alloc, disk, engine, row, out)? {
+            return put_after(engine, disk.made().saturating_sub(before), out);
+        }
+        look::answer(alloc, disk, engine, row, out)
+    }
+
+    fn add_step(&mut self, alloc: Global, line: &str) -> Result<(), Stop> {
+        match line.strip_prefix("step ") {
+            Some(step) => {
+                self.steps.push(Row::read(alloc, step.as_bytes())?)?;
+                Ok(())
+            }
+            None => Err(Stop::NoSuchRow),
+        }
+    }
+}
+
+impl Rows for Engines {
+    fn answer(
+        &mut self,
+        alloc: Global,
+        line: &str,
+        row: &Row,
+        out: &mut String,
+    ) -> Result<(), Stop> {
+        match row.call() {
+            b"disk" => {
+                self.disk = Some(Untold::new(alloc)?);
+                self.engine = None;
+                Ok(())
+            }
+            b"steps" => {
+                self.steps = Vec::new(alloc);
+                Ok(())
+            }
+            b"step" => self.add_step(alloc, line),
+            _ => self.call(alloc, row, out),
+        }
+    }
+}

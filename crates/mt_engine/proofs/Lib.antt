@@ -1,0 +1,11 @@
+pub mod Accepts
+pub mod Commands
+pub mod Ends
+pub mod Held
+pub mod Histories
+pub mod Loading
+pub mod Objects
+pub mod Openings
+pub mod Runs
+pub mod Stores
+pub mod Stretches

@@ -1,0 +1,35 @@
+use Rattle.std.proofs.Common.{Option, sym, subst}
+use Rattle.mt_disk.specs.Files.{Files}
+use Rattle.mt_log.specs.LogImage.{payloads_of}
+use Rattle.mt_log.specs.LogState.{IsThere}
+use Rattle.mt_log.proofs.Standing.{stands_on}
+use Rattle.mt_body.specs.Sending.{Sends}
+use Rattle.mt_body.specs.Stored.{bytes_of}
+use Rattle.mt_engine.specs.Current.{EngineState, IsCurrent}
+use Rattle.mt_engine.specs.History.{Bytes}
+use Rattle.mt_engine.proofs.Held.{told_now}
+use Rattle.mt_engine.proofs.Objects.{stands_for}
+use Rattle.mt_engine.proofs.engine.Engine.send_body.Goals as goal
+
+pub send_body-requires-clause-there : goal.send_body-requires-clause-there
+send_body-requires-clause-there g c = subst (λ (e : EngineState). IsThere g.D.Disk.seen c.args.disk.now e.log) (sym c.self.view_is) c.requires.there
+
+pub returns-clause-part : goal.returns-clause-part
+returns-clause-part g c base h i =
+    let d = g.D.Disk in
+    let k = g.K.Sink in
+    let ps = payloads_of i.is_read.files in
+    let sent = c.send_body.ensures.sent in (
+      bytes_of ps c.args.body.now,
+      stands_for (d.seen c.args.disk.now) c.args.self.now base h i c.args.body.now,
+      subst (λ (bytes : Bytes). Sends c.send_body.result bytes (k.got c.args.sink.now) (k.got c.send_body.new.sink) (k.write_faults c.args.sink.now) (k.write_faults c.send_body.new.sink))
+          (sent.3 ps (told_now (d.seen c.args.disk.now) c.args.self.now base h i)) sent.2,
+    )
+
+pub returns-clause-current : goal.returns-clause-current
+returns-clause-current g c base h i = subst (λ (f : Option Files). IsCurrent f c.args.self.now base h) (sym c.send_body.ensures.read.seen_same) i
+
+pub returns-clause-stands : goal.returns-clause-stands
+returns-clause-stands g c stands =
+    let d = g.D.Disk in
+    stands_on d.seen d.may_leave d.moment d.left_since c.args.disk.now c.send_body.new.disk c.args.self.now.log c.send_body.ensures.read stands

@@ -1,0 +1,66 @@
+-- What an engine holds, and how it stands to a history and a disk.
+use Rattle.std.specs.Prelude.{◌≡◌, ℕ, false, true, List, [], ◌++◌, Option, Some}
+use Rattle.std.specs.List.{list_all}
+use Rattle.std.specs.Option.{ForSome}
+use Rattle.mt_base.specs.Lists.{IsPrefixOf}
+use Rattle.mt_codec.specs.Pieces.{is_piece}
+use Rattle.mt_disk.specs.Files.{Files}
+use Rattle.mt_log.specs.LogImage.{IsLogOf, payloads_of}
+use Rattle.mt_log.specs.LogState.{LogState}
+use Rattle.mt_log.specs.RunState.{HasTaken, RunState}
+use Rattle.mt_body.specs.Stored.{IsStored, bytes_of}
+use Rattle.mt_model.specs.Bodies.{OfState, state_with}
+use Rattle.mt_model.specs.CommandStep.{replay}
+use Rattle.mt_model.specs.Rows.{Rows}
+use Rattle.mt_model.specs.State.{State}
+use Rattle.mt_types.specs.declared.body.Body.{Body}
+use Rattle.mt_types.specs.declared.object.Object.{Object}
+use Rattle.mt_engine.specs.History.{Bytes, HasHistory, History, IsHistoryOf}
+
+-- the log, and the state over references into it
+pub record EngineState : Type 0 where
+  pub log : LogState
+  pub state : State Body
+
+-- The engine is open, and the disk's log is its own: it stands for this history behind this base, where that leads is the state,
+-- and the bodies of the state stand in it.
+pub record IsRead (seen : Option Files) (engine : EngineState) (base : State Bytes) (h : History) : Type 0 where
+  pub files : Files
+  pub seen_is : seen ≡ Some files
+  pub is_open : engine.log.closed ≡ false
+  pub log : IsLogOf files engine.log.file engine.log.gate engine.log.is_old
+  pub history : IsHistoryOf (payloads_of files) base h
+  pub state : state_with (bytes_of (payloads_of files)) engine.state ≡ replay base h
+  pub stored : OfState (IsStored (payloads_of files)) engine.state
+
+-- the same of a log of this version, which takes commands
+pub record IsCurrent (seen : Option Files) (engine : EngineState) (base : State Bytes) (h : History) : Type 0 where
+  pub is_read : IsRead seen engine base h
+  pub version : engine.log.is_old ≡ false
+
+-- the same while a run is open that has taken pieces: the last are the payloads with those of the run
+pub record IsWriting (seen : Option Files) (engine : EngineState) (run : RunState) (base : State Bytes) (h : History) (qs : List (List ℕ)) : Type 0 where
+  pub current : IsCurrent seen engine base h
+  pub records : List (List ℕ)
+  pub pieces : list_all is_piece records ≡ true
+  pub taken : HasTaken seen engine.log run records
+  pub all : qs ≡ payloads_of current.is_read.files ++ records
+
+-- the files have a history from the first of these up to the second
+pub record IsBetween (base : State Bytes) (h k : History) (c : Files) : Type 0 where
+  pub history : History
+  pub has : HasHistory base history c
+  pub from : IsPrefixOf h history
+  pub to : IsPrefixOf history k
+
+-- a state of these rows after so many commands, without jobs and uploads
+abbrev pub state_of : {B : Type 0} → ℕ → Rows B → State B
+state_of count rows = record { count = count; rows = rows; jobs = []; uploads = [] }
+
+-- an object with another moment
+abbrev pub moved_to : {B : Type 0} → ℕ → Object B → Object B
+moved_to moment object = record object { mtime = moment }
+
+-- where the engine is open and the disk tells what it holds, it has a history
+abbrev pub Serves : Option Files → EngineState → Type 0
+Serves seen engine = engine.log.closed ≡ false → ForSome seen (λ files. (base : State Bytes) × (h : History) × IsCurrent seen engine base h)

@@ -1,0 +1,6 @@
+pub mod Accepting
+pub mod Current
+pub mod History
+pub mod Opening
+pub mod Places
+pub mod Reading

@@ -1,0 +1,25 @@
+//! A history of commands and its log: the state that the log stands for, over references to the bodies in it.
+//!
+//! - `engine`: the value that callers hold; `publish`: the end of a run; `send`: the bodies of its state.
+//! - `account`: the state; `rows`: commands on rows, over its tree.
+//! - `open`: a log that is there; `load`: its payloads, one behind the other; `places`: where pieces stand; `digest`: of bodies.
+//! - `specs/History`: the history that payloads stand for. `specs/Current`: how an engine stands to it. `laws`: what holds of both.
+//! - `specs/Accepting`, `specs/Reading`: what the calls of an engine do. `specs/Opening`, `specs/Places`: how a log is opened.
+#![tactic(auto)]
+
+mod account;
+mod digest;
+mod engine;
+pub mod laws;
+mod load;
+mod open;
+mod opening;
+mod places;
+mod publish;
+mod rows;
+mod send;
+
+pub use account::Account;
+pub use engine::{Accepted, Engine};
+pub use opening::{OpenEnd, Unreadable};
+pub use publish::RunEnd;

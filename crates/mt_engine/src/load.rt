@@ -1,0 +1,250 @@
+//! Reading the payloads of a log that was opened, one behind the other: pieces of bodies are noted, and commands change the state.
+ghost use Rattle.std.specs.Prelude.{◌≡◌, ◌≢◌, ◌<◌, ◌≤◌, ◌+◌, ℕ, List, true, false, None, length, Err, IfOk, OnOk, IsErrOf, IsTrue, ◌↔◌};
+ghost use Rattle.std.specs.Option.{ForSome};
+ghost use Rattle.mt_base.specs.Counts.{HasCause, NeverFell, Rose};
+ghost use Rattle.mt_codec.specs.Pieces.{is_piece};
+ghost use Rattle.mt_codec.specs.Spelling.{HasSpelling, Spells, spelling};
+ghost use Rattle.mt_disk.specs.CrashModel.{OnlyRead};
+ghost use Rattle.mt_log.specs.LogState.{IsThere, next_place, told};
+ghost use Rattle.mt_log.specs.Places.{IsPlace, payload_at};
+ghost use Rattle.mt_body.specs.Stored.{is_stored};
+ghost use Rattle.mt_model.specs.Bodies.{OfCommand};
+ghost use Rattle.mt_model.specs.CommandStep.{allowed};
+ghost use Rattle.mt_types.specs.Kinds.{OnRows, kind_of};
+ghost use Rattle.mt_types.specs.declared.command.Command.{Command};
+ghost use Rattle.mt_types.specs.declared.body.Body.{Body};
+ghost use Rattle.mt_types.specs.declared.limits.TheConstants.{MOST_COMMANDS};
+ghost use Rattle.mt_engine.specs.Opening.{IsLoaded, IsLoading, MayStand, NamesForeign};
+ghost use Rattle.mt_engine.specs.Places.{ArePlaces};
+ghost use Rattle.mt_engine.specs.declared.opening.Unreadable.{Unreadable};
+ghost use Rattle.mt_engine.specs.declared.opening.Unreadable.TheVariants.{Foreign};
+
+use crate::account::Account;
+use crate::digest::digested;
+use crate::opening::{OpenEnd, foreign};
+use crate::places::Places;
+use mt_codec::{DecodeError, decode};
+use mt_disk::{Disk, DiskFault};
+use mt_log::Log;
+use mt_types::{Body, Command, LARGEST_PIECE, MOST_COMMANDS};
+use std::alloc::Global;
+
+/// The bytes of the largest piece with its mark.
+const LARGEST_RECORD: u32 = LARGEST_PIECE as u32 + 1;
+
+// What is read of each payload: its length, and whether it is a piece of a body.
+#[derive(Clone, Copy)]
+struct Head {
+    len: u32,
+    is_piece: bool,
+}
+
+// Reads the length of the payload at a place, and its first byte where it may be a piece.
+fn head_at<D: Disk>(log: &Log, disk: &mut D, place: u64) -> Result<Head, DiskFault>
+    requires there { IsThere D.seen disk.old log.now }
+    requires is_open { log.now.closed ≡ false }
+    requires place { ForSome (told (D.seen disk.old)) (λ ps. IsPlace place ps) }
+    ensures head { IfOk result (λ h. ForSome (told (D.seen disk.old)) (λ ps. (h.len ≡ length (payload_at place ps)) × (h.is_piece ≡ is_piece (payload_at place ps)))) }
+    ensures size { IfOk result (λ h. h.is_piece ≡ true → (1 < h.len) × (h.len ≤ 65537)) }
+    ensures read { OnlyRead D.seen D.may_leave D.moment D.left_since disk.old disk.new }
+    ensures cause { HasCause (D.faults disk.old) (D.faults disk.new) result }
+{
+    let len = log.payload_len(disk, place)?;
+    if len < 2 || len > LARGEST_RECORD {
+        return Ok(Head {
+            len,
+            is_piece: false,
+        });
+    }
+    let mut mark = [0; 1];
+    match log.read_part(disk, place, 0, &mut mark) {
+        Ok(()) => Ok(Head {
+            len,
+            is_piece: mark[0] == 0,
+        }),
+        Err(_) => Err(DiskFault),
+    }
+}
+
+// Reads the command at a place.
+fn command_at<D: Disk>(
+    alloc: Global,
+    log: &Log,
+    disk: &mut D,
+    place: u64,
+    buffer: &mut Vec<u8>,
+) -> Result<Command<Body>, OpenEnd>
+    requires there { IsThere D.seen disk.old log.now }
+    requires is_open { log.now.closed ≡ false }
+    requires place { ForSome (told (D.seen disk.old)) (λ ps. IsPlace place ps) }
+    ensures found { IfOk result (λ c. (p : List ℕ) × Spells p c × ForSome (told (D.seen disk.old)) (λ ps. payload_at place ps ≡ p)) }
+    ensures none { (why : Unreadable) → result ≡ Err (OpenEnd.Unreadable why) →
+        (why ≡ Foreign place) × ForSome (told (D.seen disk.old)) (λ ps. (c : Command Body) → HasSpelling c → payload_at place ps ≢ spelling c) }
+    ensures read { OnlyRead D.seen D.may_leave D.moment D.left_since disk.old disk.new }
+    ensures disk { IsErrOf result OpenEnd.Disk → Rose (D.faults disk.old) (D.faults disk.new) }
+    ensures faults { NeverFell (D.faults disk.old) (D.faults disk.new) }
+{
+    match log.read(disk, place, buffer) {
+        Ok(()) => match decode(alloc, buffer.as_slice()) {
+            Ok(command) => Ok(command),
+            Err(DecodeError::NotACommand) => Err(foreign(place)),
+            Err(DecodeError::Memory) => Err(OpenEnd::Memory),
+        },
+        Err(fault) => Err(fault.into()),
+    }
+}
+
+// Whether a command is one on rows.
+fn is_on_rows(command: &Command<Body>) -> bool
+    ensures { IsTrue result ↔ (kind_of command.now ≡ OnRows) }
+{
+    match command {
+        Command::Put { .. }
+        | Command::MakeDirectory { .. }
+        | Command::Link { .. }
+        | Command::Delete { .. } => true,
+        Command::NewJob { .. }
+        | Command::AddInputs { .. }
+        | Command::EndInput { .. }
+        | Command::Commit { .. }
+        | Command::Finish { .. }
+        | Command::Cancel { .. }
+        | Command::Close { .. }
+        | Command::NewUpload { .. }
+        | Command::PutPart { .. }
+        | Command::CommitUpload { .. }
+        | Command::AbortUpload { .. } => false,
+    }
+}
+
+// Whether the pieces of each body that a command on rows brings stand in the log.
+fn bodies_stand(places: &Places, command: &Command<Body>) -> bool
+    requires kind { kind_of command.now ≡ OnRows }
+    ensures { (ps : List (List ℕ)) → ArePlaces ps places.now.earlier.items places.now.last → IsTrue result ↔ OfCommand (λ b. is_stored ps b ≡ true) command.now }
+{
+    match command {
+        Command::Put { body, .. } => places.has(body),
+        Command::MakeDirectory { .. } | Command::Link { .. } | Command::Delete { .. } => true,
+        _ => unreachable!(),
+    }
+}
+
+// Whether a command may stand behind the payloads that were read.
+fn may_stand(account: &Account, places: &Places, command: &Command<Body>) -> bool
+    ensures kind { result ≡ true → kind_of command.now ≡ OnRows }
+    ensures few { result ≡ true → account.now.count < MOST_COMMANDS }
+    ensures allowed { result ≡ true → allowed (λ b. b.len) account.now command.now ≡ None }
+    ensures stands { (ps : List (List ℕ)) → ArePlaces ps places.now.earlier.items places.now.last → IsTrue result ↔ MayStand ps account.now command.now }
+{
+    if !is_on_rows(command) {
+        return false;
+    }
+    if account.count() >= MOST_COMMANDS || !bodies_stand(places, command) {
+        return false;
+    }
+    match account.judge(command) {
+        Ok(()) => true,
+        Err(_) => false,
+    }
+}
+
+// Takes the command at a place into the state.
+fn load_command<D: Disk>(
+    alloc: Global,
+    log: &Log,
+    disk: &mut D,
+    place: u64,
+    account: &mut Account,
+    places: &Places,
+    buffer: &mut Vec<u8>,
+) -> Result<(), OpenEnd>
+    requires there { IsThere D.seen disk.old log.now }
+    requires is_open { log.now.closed ≡ false }
+    requires place { ForSome (told (D.seen disk.old)) (λ ps. IsPlace place ps) }
+    requires no_piece { ForSome (told (D.seen disk.old)) (λ ps. is_piece (payload_at place ps) ≡ false) }
+    requires loading { ForSome (told (D.seen disk.old)) (λ ps. IsLoading ps place account.old places.now.earlier.items places.now.last) }
+    ensures loading { OnOk result (ForSome (told (D.seen disk.old)) (λ ps.
+        IsLoading ps (next_place place (length (payload_at place ps))) account.new places.now.earlier.items places.now.last)) }
+    ensures foreign { (why : Unreadable) → result ≡ Err (OpenEnd.Unreadable why) → ForSome (told (D.seen disk.old)) (λ ps. NamesForeign ps why) }
+    ensures read { OnlyRead D.seen D.may_leave D.moment D.left_since disk.old disk.new }
+    ensures disk { IsErrOf result OpenEnd.Disk → Rose (D.faults disk.old) (D.faults disk.new) }
+    ensures faults { NeverFell (D.faults disk.old) (D.faults disk.new) }
+{
+    let command = match command_at(alloc, log, disk, place, buffer) {
+        Ok(command) => command,
+        Err(end) => return Err(end),
+    };
+    if !may_stand(account, places, &command) {
+        return Err(foreign(place));
+    }
+    let command = digested(log, disk, command, buffer)?;
+    account.change(alloc, command)?;
+    Ok(())
+}
+
+// Takes the payload at a place, and gives the place behind it.
+fn load_one<D: Disk>(
+    alloc: Global,
+    log: &Log,
+    disk: &mut D,
+    place: u64,
+    account: &mut Account,
+    places: &mut Places,
+    buffer: &mut Vec<u8>,
+) -> Result<u64, OpenEnd>
+    requires there { IsThere D.seen disk.old log.now }
+    requires is_open { log.now.closed ≡ false }
+    requires place { ForSome (told (D.seen disk.old)) (λ ps. IsPlace place ps) }
+    requires loading { ForSome (told (D.seen disk.old)) (λ ps. IsLoading ps place account.old places.old.earlier.items places.old.last) }
+    ensures loading { IfOk result (λ next. ForSome (told (D.seen disk.old)) (λ ps. IsLoading ps next account.new places.new.earlier.items places.new.last)) }
+    ensures next { IfOk result (λ next. (place < next) × (next ≤ log.now.gate)) }
+    ensures foreign { (why : Unreadable) → result ≡ Err (OpenEnd.Unreadable why) → ForSome (told (D.seen disk.old)) (λ ps. NamesForeign ps why) }
+    ensures read { OnlyRead D.seen D.may_leave D.moment D.left_since disk.old disk.new }
+    ensures disk { IsErrOf result OpenEnd.Disk → Rose (D.faults disk.old) (D.faults disk.new) }
+    ensures faults { NeverFell (D.faults disk.old) (D.faults disk.new) }
+{
+    let head = head_at(log, disk, place)?;
+    // Only a disk that tells nothing may give a longer record than the one that was read when the log was opened.
+    let next = match log.next(place, head.len as u64) {
+        Some(next) => next,
+        None => return Err(foreign(place)),
+    };
+    if head.is_piece {
+        places.add(place, head.len as u64 - 1)?;
+        return Ok(next);
+    }
+    load_command(alloc, log, disk, place, account, places, buffer)?;
+    Ok(next)
+}
+
+/// Reads the payloads of a log that was opened, and gives the state that they lead to. It keeps 16 bytes a body beside the state.
+pub(crate) fn load<D: Disk>(alloc: Global, log: &Log, disk: &mut D) -> Result<Account, OpenEnd>
+    requires there { IsThere D.seen disk.old log.now }
+    requires is_open { log.now.closed ≡ false }
+    ensures loaded { IfOk result (λ account. ForSome (told (D.seen disk.old)) (λ ps. IsLoaded ps account)) }
+    ensures foreign { (why : Unreadable) → result ≡ Err (OpenEnd.Unreadable why) → ForSome (told (D.seen disk.old)) (λ ps. NamesForeign ps why) }
+    ensures read { OnlyRead D.seen D.may_leave D.moment D.left_since disk.old disk.new }
+    ensures disk { IsErrOf result OpenEnd.Disk → Rose (D.faults disk.old) (D.faults disk.new) }
+    ensures faults { NeverFell (D.faults disk.old) (D.faults disk.new) }
+{
+    let gate = log.len() - 1;
+    let mut account = Account::new(alloc)?;
+    let mut places = Places::new(alloc);
+    let mut buffer = Vec::new(alloc);
+    let mut place = log.first();
+    'payloads: while place < gate {
+        match load_one(
+            alloc,
+            log,
+            disk,
+            place,
+            &mut account,
+            &mut places,
+            &mut buffer,
+        ) {
+            Ok(next) => place = next,
+            Err(end) => return Err(end),
+        }
+    }
+    Ok(account)
+}

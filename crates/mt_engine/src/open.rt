@@ -1,0 +1,75 @@
+//! Opening the log of a disk, and the state that it stands for.
+ghost use Rattle.std.specs.Prelude.{◌≡◌, Err, false, IfOk, OnOk, IsErrOf};
+ghost use Rattle.std.specs.Option.{ForSome};
+ghost use Rattle.mt_base.specs.Counts.{NeverFell, Rose};
+ghost use Rattle.mt_disk.specs.CrashModel.{IsAtRest, LeavesOnly};
+ghost use Rattle.mt_log.specs.LogImage.{Fit, SameLog};
+ghost use Rattle.mt_log.specs.LogState.{Stands};
+ghost use Rattle.mt_model.specs.State.{State};
+ghost use Rattle.mt_engine.specs.Current.{IsCurrent};
+ghost use Rattle.mt_engine.specs.History.{Bytes, HasHistory, History};
+ghost use Rattle.mt_engine.specs.Opening.{IsReadable, IsRefused, KeepsLogs};
+ghost use Rattle.mt_engine.specs.declared.opening.Unreadable.{Unreadable};
+
+use crate::account::Account;
+use crate::engine::Engine;
+use crate::load::load;
+use crate::opening::{OpenEnd, refused};
+use mt_disk::Disk;
+use mt_log::Log;
+use std::alloc::Global;
+
+// The log of a disk, and the state that it stands for.
+fn open_log<D: Disk>(alloc: Global, disk: &mut D, limit: u64) -> Result<(Log, Account), OpenEnd>
+    requires rest { IsAtRest D.seen D.may_leave disk.old }
+    requires fit { ForSome (D.seen disk.old) Fit }
+    ensures current { ForSome (D.seen disk.old) (λ files. (base : State Bytes) (h : History) → HasHistory base h files →
+        IfOk result (λ e. IsCurrent (D.seen disk.new) (record { log = e.0; state = e.1 }) base h)) }
+    ensures limit { IfOk result (λ e. e.0.limit ≡ limit) }
+    ensures live { IfOk result (λ e. e.0.closed ≡ false) }
+    ensures version { IfOk result (λ e. e.0.is_old ≡ false) }
+    ensures stands { IfOk result (λ e. Stands D.seen D.may_leave disk.new e.0) }
+    // Only what can be read is opened, and what is refused is refused for its first fault, and stays.
+    ensures opened { OnOk result (ForSome (D.seen disk.old) IsReadable) }
+    ensures refused { (why : Unreadable) → result ≡ Err (OpenEnd.Unreadable why) →
+        ForSome (D.seen disk.old) (λ files. IsRefused files why × KeepsLogs D.seen D.may_leave disk.new files) }
+    ensures any_moment { ForSome (D.seen disk.old) (λ files. LeavesOnly D.moment D.left_since disk.old disk.new (SameLog files)) }
+    ensures disk { IsErrOf result OpenEnd.Disk → Rose (D.faults disk.old) (D.faults disk.new) }
+    ensures faults { NeverFell (D.faults disk.old) (D.faults disk.new) }
+{
+    match Log::open(alloc, disk, limit) {
+        Ok(log) => match load(alloc, &log, disk) {
+            Ok(account) => Ok((log, account)),
+            Err(end) => Err(end),
+        },
+        Err(error) => Err(refused(error)),
+    }
+}
+
+impl Engine {
+    /// Opens the log of a disk, which may get `limit` bytes long, and the state that it stands for. A log is made where there is none,
+    /// and one that can't be read is left as it is. It keeps 16 bytes a body while it opens, and digests each byte of a body once for
+    /// each command that brings it.
+    pub fn open<D: Disk>(alloc: Global, disk: &mut D, limit: u64) -> Result<Engine, OpenEnd>
+        requires rest { IsAtRest D.seen D.may_leave disk.old }
+        requires fit { ForSome (D.seen disk.old) Fit }
+        ensures current { ForSome (D.seen disk.old) (λ files. (base : State Bytes) (h : History) → HasHistory base h files →
+            IfOk result (λ e. IsCurrent (D.seen disk.new) e base h)) }
+        ensures limit { IfOk result (λ e. e.log.limit ≡ limit) }
+        ensures live { IfOk result (λ e. e.log.closed ≡ false) }
+        ensures version { IfOk result (λ e. e.log.is_old ≡ false) }
+        ensures stands { IfOk result (λ e. Stands D.seen D.may_leave disk.new e.log) }
+        // Only what can be read is opened, and what is refused is refused for its first fault, and stays.
+        ensures opened { OnOk result (ForSome (D.seen disk.old) IsReadable) }
+        ensures refused { (why : Unreadable) → result ≡ Err (OpenEnd.Unreadable why) →
+            ForSome (D.seen disk.old) (λ files. IsRefused files why × KeepsLogs D.seen D.may_leave disk.new files) }
+        ensures any_moment { ForSome (D.seen disk.old) (λ files. LeavesOnly D.moment D.left_since disk.old disk.new (SameLog files)) }
+        ensures disk { IsErrOf result OpenEnd.Disk → Rose (D.faults disk.old) (D.faults disk.new) }
+        ensures faults { NeverFell (D.faults disk.old) (D.faults disk.new) }
+    {
+        match open_log(alloc, disk, limit) {
+            Ok((log, account)) => Ok(Engine { log, account }),
+            Err(end) => Err(end),
+        }
+    }
+}
