@@ -29,14 +29,12 @@ pub fn put_rows(alloc: Global, tree: &Tree<Body>, out: &mut String) -> Result<()
     let Ok(dir) = mt_types::Path::plain(alloc, "l", b"/l/stor") else {
         return Err(Stop::NoSuchRow);
     };
-    let page = tree.list(alloc, &dir, b"", ALL)?;
+    let page = tree.page(alloc, &dir, b"", ALL)?;
     let mut between = "";
-    for row in page.as_slice() {
+    for listed in &page {
         out.push_str(between)?;
-        if let Some(name) = row.path.parts().last() {
-            put_escaped(out, name.as_slice())?;
-        }
-        match &row.entry {
+        put_escaped(out, listed.name)?;
+        match listed.entry {
             Entry::Directory { mtime } => write!(out, "/ {mtime}")?,
             Entry::Object(object) => write!(out, " {}", object.number)?,
         }

@@ -8,7 +8,8 @@ use Rattle.mt_path.specs.declared.area.Area.TheVariants.{Stor, Public, Jobs}
 use Rattle.mt_types.specs.declared.object.Entry.{Entry}
 use Rattle.mt_model.specs.Rows.{is_path, is_above, is_child, children}
 use Rattle.mt_tree.specs.declared.kept.KeptRow.{KeptRow}
-use Rattle.mt_tree.specs.Kept.{Parts, in_area, joined, parts_above, rows_of}
+use Rattle.mt_tree.specs.Kept.{in_area, joined, parts_above, rows_of}
+use Rattle.mt_tree.specs.Keys.{Parts}
 use Rattle.mt_tree.proofs.Appended.{filter-append, filter-none}
 use Rattle.mt_tree.proofs.Joined.{Entries, path_in, part, all_in}
 use Rattle.mt_tree.proofs.Valued.{valued}
@@ -24,7 +25,7 @@ fewer p (x ∷ xs) = elim (p x) as (λ b. length (cond b (x ∷ filter p xs) (fi
 module _ {B : Type 0} where
   rows-in : (area : Area) (es : Entries (KeptRow B)) → rows_of (in_area area es) ≡ in_area area (valued (λ row. row.entry) es)
   rows-in area [] = refl
-  rows-in area (e ∷ es) = ap (λ l. (path_in area e.0.items, e.1.entry) ∷ l) (rows-in area es)
+  rows-in area (e ∷ es) = ap (λ l. (path_in area e.0, e.1.entry) ∷ l) (rows-in area es)
 
   pub rows-joined : (s u j : Entries (KeptRow B)) → rows_of (joined s u j) ≡ joined (valued (λ row. row.entry) s) (valued (λ row. row.entry) u) (valued (λ row. row.entry) j)
   rows-joined s u j =

@@ -1,5 +1,5 @@
 -- Rows that are copied in their order, until there are enough.
-use Rattle.std.proofs.Common.{◌≡◌, ℕ, ◌+◌, ◌-◌, ◌<◌, ◌≤◌, ◌&&◌, Bool, true, false, cond, List, [], ◌∷◌, ◌++◌, map, length, take, Option, Some, None, refl, sym, ap, subst, ◌∙◌, arith, zero, suc, append-nil, append_assoc, length-append}
+use Rattle.std.proofs.Common.{◌≡◌, ℕ, ◌+◌, ◌-◌, ◌<◌, ◌≤◌, Bool, true, false, cond, List, [], ◌∷◌, ◌++◌, map, length, take, Option, Some, None, refl, sym, ap, subst, ◌∙◌, arith, zero, suc, append-nil, append_assoc, length-append}
 use Rattle.std.proofs.lemmas.List.{length-map, map-append}
 use Rattle.std.proofs.lemmas.List.Elements.{All-from_recursion, recursion_from_All}
 use Rattle.std.specs.Prelude.{All}
@@ -13,10 +13,11 @@ use Rattle.mt_path.specs.PathOrder.{path_cmp}
 use Rattle.mt_path.specs.declared.area.Area.{Area}
 use Rattle.mt_path.specs.declared.area.Area.TheVariants.{Stor, Public, Jobs}
 use Rattle.mt_tree.specs.declared.kept.KeptRow.{KeptRow}
-use Rattle.mt_tree.specs.Kept.{Parts, in_area, joined, parts_cmp, rows_of}
+use Rattle.mt_tree.specs.Kept.{in_area, joined, parts_cmp, rows_of}
+use Rattle.mt_tree.specs.Keys.{Parts}
 use Rattle.mt_tree.specs.Walk.{rows_after}
 use Rattle.mt_tree.proofs.Appended.{filter-append}
-use Rattle.mt_tree.proofs.Joined.{Entries, Key, path_in}
+use Rattle.mt_tree.proofs.Joined.{Entries, path_in}
 
 take_nil : {X : Type 0} (n : ℕ) → take {A = X} n [] ≡ []
 take_nil zero = refl
@@ -96,44 +97,44 @@ module _ {B : Type 0} (area : Area) where
   after-none p (e ∷ es) low =
       let high : nat_cmp (area_number p.area) (area_number area) ≡ Greater = nat_cmp_total.antisymm (area_number p.area) (area_number area) ∙ ap ordering_reverse low in
       after-none p es low
-      ∙ sym (ap (λ r. cond (is_lt (ordering_then r (parts_cmp p.parts e.0.items))) ((path_in area e.0.items, e.1.entry) ∷ rows_after (Some p) (rows_of (in_area area es))) (rows_after (Some p) (rows_of (in_area area es)))) high)
+      ∙ sym (ap (λ r. cond (is_lt (ordering_then r (parts_cmp p.parts e.0))) ((path_in area e.0, e.1.entry) ∷ rows_after (Some p) (rows_of (in_area area es))) (rows_after (Some p) (rows_of (in_area area es)))) high)
 
   pub after-all : (p : AccountPath) (es : Entries (KeptRow B)) → nat_cmp (area_number area) (area_number p.area) ≡ Greater → rows_of (in_area area es) ≡ rows_after (Some p) (rows_of (in_area area es))
   after-all p [] high = refl
   after-all p (e ∷ es) high =
       let low : nat_cmp (area_number p.area) (area_number area) ≡ Less = nat_cmp_total.antisymm (area_number p.area) (area_number area) ∙ ap ordering_reverse high in
-      ap (λ l. (path_in area e.0.items, e.1.entry) ∷ l) (after-all p es high)
-      ∙ sym (ap (λ r. cond (is_lt (ordering_then r (parts_cmp p.parts e.0.items))) ((path_in area e.0.items, e.1.entry) ∷ rows_after (Some p) (rows_of (in_area area es))) (rows_after (Some p) (rows_of (in_area area es)))) low)
+      ap (λ l. (path_in area e.0, e.1.entry) ∷ l) (after-all p es high)
+      ∙ sym (ap (λ r. cond (is_lt (ordering_then r (parts_cmp p.parts e.0))) ((path_in area e.0, e.1.entry) ∷ rows_after (Some p) (rows_of (in_area area es))) (rows_after (Some p) (rows_of (in_area area es)))) low)
 
-  behind_cond : (b : Bool) (e : Key × KeptRow B) (l : Entries (KeptRow B)) → rows_of (in_area area (cond (b && true) (e ∷ l) l)) ≡ cond b ((path_in area e.0.items, e.1.entry) ∷ rows_of (in_area area l)) (rows_of (in_area area l))
+  behind_cond : (b : Bool) (e : Parts × KeptRow B) (l : Entries (KeptRow B)) → rows_of (in_area area (cond b (e ∷ l) l)) ≡ cond b ((path_in area e.0, e.1.entry) ∷ rows_of (in_area area l)) (rows_of (in_area area l))
   behind_cond true e l = refl
   behind_cond false e l = refl
 
-  after_same : (p : AccountPath) (es : Entries (KeptRow B)) → nat_cmp (area_number area) (area_number p.area) ≡ Equal → rows_of (in_area area (filter (λ e. is_lt (parts_cmp p.parts e.0.items) && true) es)) ≡ rows_after (Some p) (rows_of (in_area area es))
+  after_same : (p : AccountPath) (es : Entries (KeptRow B)) → nat_cmp (area_number area) (area_number p.area) ≡ Equal → rows_of (in_area area (filter (λ e. is_lt (parts_cmp p.parts e.0)) es)) ≡ rows_after (Some p) (rows_of (in_area area es))
   after_same p [] equal = refl
   after_same p (e ∷ es) equal =
       let tied : nat_cmp (area_number p.area) (area_number area) ≡ Equal = nat_cmp_total.antisymm (area_number p.area) (area_number area) ∙ ap ordering_reverse equal in
-      behind_cond (is_lt (parts_cmp p.parts e.0.items)) e (filter (λ e. is_lt (parts_cmp p.parts e.0.items) && true) es)
-      ∙ ap (λ l. cond (is_lt (parts_cmp p.parts e.0.items)) ((path_in area e.0.items, e.1.entry) ∷ l) l) (after_same p es equal)
-      ∙ sym (ap (λ r. cond (is_lt (ordering_then r (parts_cmp p.parts e.0.items))) ((path_in area e.0.items, e.1.entry) ∷ rows_after (Some p) (rows_of (in_area area es))) (rows_after (Some p) (rows_of (in_area area es)))) tied)
+      behind_cond (is_lt (parts_cmp p.parts e.0)) e (filter (λ e. is_lt (parts_cmp p.parts e.0)) es)
+      ∙ ap (λ l. cond (is_lt (parts_cmp p.parts e.0)) ((path_in area e.0, e.1.entry) ∷ l) l) (after_same p es equal)
+      ∙ sym (ap (λ r. cond (is_lt (ordering_then r (parts_cmp p.parts e.0))) ((path_in area e.0, e.1.entry) ∷ rows_after (Some p) (rows_of (in_area area es))) (rows_after (Some p) (rows_of (in_area area es)))) tied)
 
   -- the rows of the path's own area are those that a range finds
   pub after-own : (p : AccountPath) (parts : Parts) (es found : Entries (KeptRow B)) → parts ≡ p.parts → nat_cmp (area_number area) (area_number p.area) ≡ Equal
-      → found ≡ filter (λ e. is_lt (parts_cmp parts e.0.items) && true) es → rows_of (in_area area found) ≡ rows_after (Some p) (rows_of (in_area area es))
+      → found ≡ filter (λ e. is_lt (parts_cmp parts e.0)) es → rows_of (in_area area found) ≡ rows_after (Some p) (rows_of (in_area area es))
   after-own p parts es found same equal is =
-      ap (λ l. rows_of (in_area area l)) (is ∙ ap (λ x. filter (λ e. is_lt (parts_cmp x e.0.items) && true) es) same) ∙ after_same p es equal
+      ap (λ l. rows_of (in_area area l)) (is ∙ ap (λ x. filter (λ e. is_lt (parts_cmp x e.0)) es) same) ∙ after_same p es equal
 
-  all_found : (test : Parts → Bool) (es : Entries (KeptRow B)) → AllByRecursion IsPath (keys_of (rows_of (in_area area es))) → AllByRecursion IsPath (keys_of (rows_of (in_area area (filter (λ e. test e.0.items && true) es))))
+  all_found : (test : Parts → Bool) (es : Entries (KeptRow B)) → AllByRecursion IsPath (keys_of (rows_of (in_area area es))) → AllByRecursion IsPath (keys_of (rows_of (in_area area (filter (λ e. test e.0) es))))
   all_found test [] all = tt
-  all_found test (e ∷ es) all = elim (test e.0.items) as (λ b. AllByRecursion IsPath (keys_of (rows_of (in_area area (cond (b && true) (e ∷ filter (λ e. test e.0.items && true) es) (filter (λ e. test e.0.items && true) es)))))) [
+  all_found test (e ∷ es) all = elim (test e.0) as (λ b. AllByRecursion IsPath (keys_of (rows_of (in_area area (cond b (e ∷ filter (λ e. test e.0) es) (filter (λ e. test e.0) es)))))) [
     | true ↦ (all.0, all_found test es all.1)
     | false ↦ all_found test es all.1
   ]
 
-  pub paths-found : (test : Parts → Bool) (es found : Entries (KeptRow B)) → found ≡ filter (λ e. test e.0.items && true) es → All IsPath (keys_of (rows_of (in_area area es))) → All IsPath (keys_of (rows_of (in_area area found)))
+  pub paths-found : (test : Parts → Bool) (es found : Entries (KeptRow B)) → found ≡ filter (λ e. test e.0) es → All IsPath (keys_of (rows_of (in_area area es))) → All IsPath (keys_of (rows_of (in_area area found)))
   paths-found test es found is all =
       subst (λ l. All IsPath (keys_of (rows_of (in_area area l)))) (sym is)
-      (All-from_recursion IsPath (keys_of (rows_of (in_area area (filter (λ e. test e.0.items && true) es)))) (all_found test es (recursion_from_All IsPath (keys_of (rows_of (in_area area es))) all)))
+      (All-from_recursion IsPath (keys_of (rows_of (in_area area (filter (λ e. test e.0) es)))) (all_found test es (recursion_from_All IsPath (keys_of (rows_of (in_area area es))) all)))
 
 -- the rows after a path, area by area
 pub after-joined : {B : Type 0} (after : Option AccountPath) (s u j : Entries (KeptRow B))

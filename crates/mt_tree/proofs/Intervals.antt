@@ -12,18 +12,12 @@ use Rattle.std.specs.Ordering.{nat_cmp, is_le, ordering_then, ordering_reverse}
 use Rattle.std.specs.declared.cmp.Ordering.{Ordering}
 use Rattle.std.specs.declared.cmp.Ordering.TheVariants.{Less, Equal, Greater}
 use Rattle.std.proofs.lemmas.Cmp.{tied_itself}
-use Rattle.mt_tree.specs.Kept.{Parts, parts_cmp}
-use Rattle.mt_tree.specs.Walk.{begins}
+use Rattle.mt_tree.specs.Kept.{parts_cmp}
+use Rattle.mt_tree.specs.Keys.{Parts}
+use Rattle.mt_tree.specs.Walk.{begins, below_by_one, is_from_name, is_one_below, last_of}
 
 abbrev pub name_cmp : List ℕ → List ℕ → Ordering
 name_cmp = slice_cmp nat_cmp
-
-abbrev pub last_of : Parts → List ℕ
-last_of p = get_or p (length p - 1) []
-
--- the second is the first and one component more
-abbrev pub is_one_below : Parts → Parts → Bool
-is_one_below d p = (length p == length d + 1) && pointwise (pointwise ◌==◌) (take (length d) p) d
 
 pub parts_decide : (a b : Parts) → (pointwise (pointwise ◌==◌) a b ≡ true → a ≡ b) × (a ≡ b → pointwise (pointwise ◌==◌) a b ≡ true)
 parts_decide = pointwise_decides (pointwise_decides unsigned_Decides)
@@ -101,10 +95,6 @@ le_last Less = refl
 le_last Equal = refl
 le_last Greater = refl
 
--- the name of a path is not below the marker
-abbrev pub is_from_name : List ℕ → Parts → Bool
-is_from_name marker q = is_le (name_cmp marker (last_of q))
-
 -- a child is from a marker on where its path is from the marker's on
 child_from : (d : Parts) (m : List ℕ) (q : Parts) → is_one_below d q ≡ true → is_le (parts_cmp (d ++ m ∷ []) q) ≡ is_from_name m q
 child_from d m q h =
@@ -113,10 +103,6 @@ child_from d m q h =
     ∙ le_last (name_cmp m (last_of q))
 
 module _ {X : Type 0} where
-  -- the rows one below a directory
-  abbrev pub below_by_one : List (Parts × X) → Parts → List (Parts × X)
-  below_by_one rows d = filter (λ r. is_one_below d r.0) rows
-
   -- the rows from a path on
   abbrev pub from_parts : Parts → List (Parts × X) → List (Parts × X)
   from_parts start rows = filter (λ r. is_le (parts_cmp start r.0)) rows

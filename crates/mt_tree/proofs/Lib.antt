@@ -1,4 +1,5 @@
 pub mod Appended
+pub mod Boxed
 pub mod Changed
 pub mod ChildrenIn
 pub mod Copies
@@ -8,8 +9,13 @@ pub mod Grown
 pub mod Intervals
 pub mod Joined
 pub mod Keeps
+pub mod Keys
+pub mod Named
 pub mod Pages
+pub mod Paging
 pub mod Placed
+pub mod PathKeys
+pub mod Places
 pub mod Restored
 pub mod Roots
 pub mod Scans

@@ -7,24 +7,26 @@ use Rattle.mt_path.specs.AccountPath.{IsPath}
 use Rattle.mt_path.specs.declared.area.Area.{Area}
 use Rattle.mt_path.specs.declared.area.Area.TheVariants.{Stor, Public, Jobs}
 use Rattle.mt_model.specs.Listing.{is_from, listing}
-use Rattle.mt_model.specs.Rows.{row_of}
 use Rattle.mt_tree.specs.declared.areas.Areas.{Areas}
 use Rattle.mt_tree.specs.declared.kept.KeptRow.{KeptRow}
 use Rattle.mt_tree.specs.Areas.{all_of, map_of}
-use Rattle.mt_tree.specs.Kept.{Parts, in_area, rows_of}
+use Rattle.mt_tree.specs.Kept.{in_area, rows_of}
+use Rattle.mt_tree.specs.Keys.{Parts}
+use Rattle.mt_tree.specs.Walk.{lent_row, listed_row, page_of}
 use Rattle.mt_tree.proofs.ChildrenIn.{children-joined}
 use Rattle.mt_tree.proofs.Joined.{Entries, part, path_in}
-use Rattle.mt_tree.proofs.Shown.{paths-part}
+use Rattle.mt_tree.proofs.Shown.{page-shown, paths-part}
 
 module _ {B : Type 0} (areas : Areas B) (area : Area) where
-  pub map-is : map_of areas area ≡ part area areas.stor.entries areas.public.entries areas.jobs.entries
-  map-is = elim area as (λ a. map_of areas a ≡ part a areas.stor.entries areas.public.entries areas.jobs.entries) [ Stor ↦ refl | Public ↦ refl | Jobs ↦ refl ]
+  pub map-is : map_of areas area ≡ part area areas.stor areas.public areas.jobs
+  map-is = elim area as (λ a. map_of areas a ≡ part a areas.stor areas.public areas.jobs) [ Stor ↦ refl | Public ↦ refl | Jobs ↦ refl ]
 
   module _ (es : Entries (KeptRow B)) (is : es ≡ map_of areas area) where
     pub paths-of : All IsPath (keys_of (all_of areas)) → All IsPath (keys_of (rows_of (in_area area es)))
-    paths-of all = subst (λ entries. All IsPath (keys_of (rows_of (in_area area entries)))) (sym (is ∙ map-is)) (paths-part area areas.stor.entries areas.public.entries areas.jobs.entries all)
+    paths-of all = subst (λ entries. All IsPath (keys_of (rows_of (in_area area entries)))) (sym (is ∙ map-is)) (paths-part area areas.stor areas.public areas.jobs all)
 
-    pub page-of : (parts : Parts) (m : List ℕ) (limit : ℕ) → map row_of (listing (rows_of (in_area area es)) (path_in area parts) m limit) ≡ map row_of (listing (all_of areas) (path_in area parts) m limit)
+    pub page-of : (parts : Parts) (m : List ℕ) (limit : ℕ) → map lent_row (page_of es parts m limit) ≡ map listed_row (listing (all_of areas) (path_in area parts) m limit)
     page-of parts m limit =
-        ap (λ entries. map row_of (listing (rows_of (in_area area entries)) (path_in area parts) m limit)) (is ∙ map-is)
-        ∙ ap (λ found. map row_of (take limit (filter (λ r. is_from m r.0) found))) (sym (children-joined area parts areas.stor.entries areas.public.entries areas.jobs.entries))
+        page-shown area es parts m limit
+        ∙ ap (λ entries. map listed_row (listing (rows_of (in_area area entries)) (path_in area parts) m limit)) (is ∙ map-is)
+        ∙ ap (λ found. map listed_row (take limit (filter (λ r. is_from m r.0) found))) (sym (children-joined area parts areas.stor areas.public areas.jobs))

@@ -12,11 +12,12 @@ use Rattle.mt_model.specs.Rows.{is_path, at, with_row, without_row, is_directory
 use Rattle.mt_model.proofs.RowLaws.{remove-allowed}
 use Rattle.mt_model.proofs.Children.{above, parent-above, some-not_root}
 use Rattle.mt_tree.specs.declared.kept.KeptRow.{KeptRow}
-use Rattle.mt_tree.specs.Kept.{Parts, changed, childless as without_children, is_key, joined, lowered, made_room, parts_above, raised, rows_of, IsKept}
+use Rattle.mt_tree.specs.Kept.{changed, childless as without_children, is_key, joined, lowered, made_room, parts_above, parts_cmp, raised, rows_of, IsKept}
+use Rattle.mt_tree.specs.Keys.{Parts}
 use Rattle.std.specs.declared.alloc.AllocError.{AllocError}
 use Rattle.mt_tree.proofs.ChildrenIn.{children-few}
 use Rattle.mt_tree.proofs.Grown.{room, rest, rows-grown, kept-grown, rows-shrunk, kept-shrunk, number-is, number-positive}
-use Rattle.mt_tree.proofs.Joined.{Key, Entries, key_cmp, path_in, part, with_part, lookup-joined, remove-joined, changed-joined, insert-joined}
+use Rattle.mt_tree.proofs.Joined.{Entries, path_in, part, with_part, lookup-joined, remove-joined, changed-joined, insert-joined}
 
 module _ {X : Type 0} (s u j : Entries X) where
   pub lookup-with : (area : Area) (new : Entries X) (parts : Parts) → lookup (is_path (path_in area parts)) (with_part area s u j new) ≡ lookup (is_key parts) new
@@ -24,7 +25,7 @@ module _ {X : Type 0} (s u j : Entries X) where
   lookup-with Public new parts = lookup-joined s new j Public parts
   lookup-with Jobs new parts = lookup-joined s u new Jobs parts
 
-  insert-with : (area : Area) (new : Entries X) (k : Key) (v : X) → insert_entry path_cmp (with_part area s u j new) (path_in area k.items) v ≡ with_part area s u j (insert_entry key_cmp new k v)
+  insert-with : (area : Area) (new : Entries X) (k : Parts) (v : X) → insert_entry path_cmp (with_part area s u j new) (path_in area k) v ≡ with_part area s u j (insert_entry parts_cmp new k v)
   insert-with Stor new k v = insert-joined new u j Stor k v
   insert-with Public new k v = insert-joined s new j Public k v
   insert-with Jobs new k v = insert-joined s u new Jobs k v
@@ -55,18 +56,18 @@ module _ {B : Type 0} (s u j : Entries (KeptRow B)) (area : Area) where
   abbrev own : Entries (KeptRow B)
   own = part area s u j
 
-  module _ (k : Key) (e : Entry B) where
+  module _ (k : Parts) (e : Entry B) where
     abbrev p : AccountPath
-    p = path_in area k.items
+    p = path_in area k
 
-    grown : with_part area s u j (insert_entry key_cmp (made_room k.items own) k (without_children e)) ≡ insert_entry path_cmp (room all p (above p)) p (without_children e)
+    grown : with_part area s u j (insert_entry parts_cmp (made_room k own) k (without_children e)) ≡ insert_entry path_cmp (room all p (above p)) p (without_children e)
     grown =
-        let raised_all : with_part area s u j (changed (is_key (parts_above k.items)) raised own) ≡ changed (is_path (above p)) raised all = sym (changed-with s u j raised area own (parts_above k.items)) ∙ ap (changed (is_path (above p)) raised) (same-with s u j area) in
-        sym (insert-with s u j area (made_room k.items own) k (without_children e))
+        let raised_all : with_part area s u j (changed (is_key (parts_above k)) raised own) ≡ changed (is_path (above p)) raised all = sym (changed-with s u j raised area own (parts_above k)) ∙ ap (changed (is_path (above p)) raised) (same-with s u j area) in
+        sym (insert-with s u j area (made_room k own) k (without_children e))
         ∙ ap (λ es. insert_entry path_cmp es p (without_children e))
-        (cond_with s u j area (is_some (lookup (is_key k.items) own)) own (changed (is_key (parts_above k.items)) raised own)
-        ∙ ap (λ b. cond b (with_part area s u j own) (with_part area s u j (changed (is_key (parts_above k.items)) raised own))) (ap is_some (sym (lookup-joined s u j area k.items)))
-        ∙ ap (λ es. cond (is_some (lookup (is_path p) all)) es (with_part area s u j (changed (is_key (parts_above k.items)) raised own))) (same-with s u j area)
+        (cond_with s u j area (is_some (lookup (is_key k) own)) own (changed (is_key (parts_above k)) raised own)
+        ∙ ap (λ b. cond b (with_part area s u j own) (with_part area s u j (changed (is_key (parts_above k)) raised own))) (ap is_some (sym (lookup-joined s u j area k)))
+        ∙ ap (λ es. cond (is_some (lookup (is_path p) all)) es (with_part area s u j (changed (is_key (parts_above k)) raised own))) (same-with s u j area)
         ∙ ap (cond (is_some (lookup (is_path p) all)) all) raised_all)
 
   module _ (parts : Parts) where
@@ -83,24 +84,24 @@ pub path_is : (path : AccountPath) (area : Area) (parts : Parts) → area ≡ pa
 path_is path area parts e f = λ i. record { area = e i; parts = f i }
 
 -- an insertion into the map of an area, as all rows show it
-module _ {B : Type 0} (s u j : Entries (KeptRow B)) (area : Area) (path : AccountPath) (e : Entry B) (k : Key) (here : path_in area k.items ≡ path) (kept : IsKept (joined s u j)) where
+module _ {B : Type 0} (s u j : Entries (KeptRow B)) (area : Area) (path : AccountPath) (e : Entry B) (k : Parts) (here : path_in area k ≡ path) (kept : IsKept (joined s u j)) where
   abbrev inserted : Entries (KeptRow B)
-  inserted = insert_entry key_cmp (made_room k.items (part area s u j)) k (without_children e)
+  inserted = insert_entry parts_cmp (made_room k (part area s u j)) k (without_children e)
 
   few : (o : Option (KeptRow B)) (m n : ℕ) → m ≤ n → IfSome o (λ row. row.children ≡ m) → IfSome o (λ row. row.children ≤ n)
   few None m n le counted = tt
   few (Some row) m n le counted = omega arith
 
-  pub counted-few : IfSome (lookup (is_key (parts_above k.items)) (part area s u j)) (λ row. row.children ≤ length (part area s u j))
+  pub counted-few : IfSome (lookup (is_key (parts_above k)) (part area s u j)) (λ row. row.children ≤ length (part area s u j))
   counted-few =
-      let d = path_in area (parts_above k.items) in
-      subst (λ o. IfSome o (λ row. row.children ≤ length (part area s u j))) (lookup-joined s u j area (parts_above k.items))
-      (few (lookup (is_path d) (joined s u j)) (length (children (rows_of (joined s u j)) d)) (length (part area s u j)) (children-few area (parts_above k.items) s u j) (number-is (joined s u j) kept.counts d))
+      let d = path_in area (parts_above k) in
+      subst (λ o. IfSome o (λ row. row.children ≤ length (part area s u j))) (lookup-joined s u j area (parts_above k))
+      (few (lookup (is_path d) (joined s u j)) (length (children (rows_of (joined s u j)) d)) (length (part area s u j)) (children-few area (parts_above k) s u j) (number-is (joined s u j) kept.counts d))
 
   all_rows : rows_of (with_part area s u j inserted) ≡ with_row (rows_of (joined s u j)) path e
   all_rows =
       ap rows_of (grown s u j area k e)
-      ∙ rows-grown (joined s u j) (path_in area k.items) (above (path_in area k.items)) e
+      ∙ rows-grown (joined s u j) (path_in area k) (above (path_in area k)) e
       ∙ ap (λ p. with_row (rows_of (joined s u j)) p e) here
 
   module _ (result : Result (Unit {0}) AllocError) (new : Entries (KeptRow B)) (ok : OnOk result (new ≡ inserted)) where

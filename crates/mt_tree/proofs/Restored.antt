@@ -1,15 +1,14 @@
 -- A number that was raised for a row that then found no memory is lowered again.
-use Rattle.std.proofs.Common.{◌≡◌, ℕ, ◌+◌, ◌-◌, ◌<◌, Bool, true, false, List, Option, Some, None, refl, sym, ap, ◌∙◌, subst, arith}
+use Rattle.std.proofs.Common.{◌≡◌, ◌+◌, ◌-◌, ◌<◌, Bool, true, false, List, Option, Some, None, refl, sym, ap, ◌∙◌, subst, arith}
 use Rattle.std.specs.Prelude.{IfSome, not, IsTrue}
-use Rattle.std.specs.declared.vec.Vec.{Vec}
-use Rattle.std.specs.declared.alloc.Global.{Global}
 use Rattle.std.specs.Map.{lookup}
 use Rattle.std.specs.Option.{option_map}
 use Rattle.mt_tree.specs.declared.kept.KeptRow.{KeptRow}
-use Rattle.mt_tree.specs.Kept.{Parts, changed, is_key, raised, lowered}
+use Rattle.mt_tree.specs.Kept.{changed, is_key, raised, lowered}
+use Rattle.mt_tree.specs.Keys.{Parts}
 use Rattle.mt_tree.proofs.Changed.{lookup-changed, undone}
 
-module _ {B : Type 0} (above above_again : Parts) (old more kept : List (Vec (List ℕ) Global × KeptRow B)) (same : above_again ≡ above) (failed : kept ≡ more) where
+module _ {B : Type 0} (above above_again : Parts) (old more kept : List (Parts × KeptRow B)) (same : above_again ≡ above) (failed : kept ≡ more) where
   lowered-raised : (row : KeptRow B) → lowered (raised row) ≡ row
   lowered-raised row = let back : row.children + 1 - 1 ≡ row.children = omega arith in ap (λ n. record row { children = n }) back
 
@@ -23,7 +22,7 @@ module _ {B : Type 0} (above above_again : Parts) (old more kept : List (Vec (Li
       (sym (ap (λ a. lookup (is_key a) kept) same ∙ ap (lookup (is_key above)) (failed ∙ grew so) ∙ lookup-changed (is_key above) raised old))
       (some (lookup (is_key above) old))
 
-  pub restored : (new : List (Vec (List ℕ) Global × KeptRow B)) (applies : Bool) → (IsTrue applies → more ≡ changed (is_key above) raised old) → (IsTrue (not applies) → more ≡ old)
+  pub restored : (new : List (Parts × KeptRow B)) (applies : Bool) → (IsTrue applies → more ≡ changed (is_key above) raised old) → (IsTrue (not applies) → more ≡ old)
       → (IsTrue applies → new ≡ changed (is_key above_again) lowered kept) → (IsTrue (not applies) → new ≡ kept) → new ≡ old
   restored new true grew stayed fell left = fell refl ∙ ap (λ a. changed (is_key a) lowered kept) same ∙ ap (changed (is_key above) lowered) (failed ∙ grew refl) ∙ undone (is_key above) raised lowered lowered-raised old
   restored new false grew stayed fell left = left refl ∙ failed ∙ stayed refl

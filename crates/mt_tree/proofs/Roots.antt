@@ -10,7 +10,7 @@ use Rattle.mt_types.specs.declared.object.Entry.TheVariants.{Directory}
 use Rattle.mt_model.specs.Rows.{is_path}
 use Rattle.mt_model.proofs.RowLaws.{IsTree-first_rows}
 use Rattle.mt_tree.specs.declared.kept.KeptRow.{KeptRow}
-use Rattle.mt_tree.specs.Kept.{AreCounts, IsKept, IsRootAlone, Parts, childless, joined, numbers_of, rows_of}
+use Rattle.mt_tree.specs.Kept.{AreCounts, IsKept, IsRootAlone, childless, joined, numbers_of, rows_of}
 use Rattle.mt_tree.proofs.Joined.{Entries, path_in}
 
 root_path : (area : Area) → IsPath (root_of area)
@@ -26,11 +26,8 @@ module _ (B : Type 0) where
   abbrev root : KeptRow B
   root = childless (Directory 0)
 
-  abbrev at_parts : Parts → Parts → Parts → List (AccountPath × KeptRow B)
-  at_parts x y z = (path_in Stor x, root) ∷ (path_in Public y, root) ∷ (path_in Jobs z, root) ∷ []
-
   abbrev first : List (AccountPath × KeptRow B)
-  first = at_parts [] [] []
+  first = (path_in Stor [], root) ∷ (path_in Public [], root) ∷ (path_in Jobs [], root) ∷ []
 
   no_numbers : AreCounts (rows_of first) (numbers_of first)
   no_numbers p = none_or (is_path p (root_of Stor)) _ (none_or (is_path p (root_of Public)) _ (none_or (is_path p (root_of Jobs)) None tt))
@@ -44,7 +41,6 @@ module _ (B : Type 0) where
 
   pub roots-kept : (s u j : Entries (KeptRow B)) → IsRootAlone s → IsRootAlone u → IsRootAlone j → IsKept (joined s u j)
   roots-kept s u j stor public jobs =
-      let all : joined s u j ≡ first =
-      ap (λ es. joined es u j) stor.2 ∙ ap (λ es. joined ((stor.0, root) ∷ []) es j) public.2 ∙ ap (λ es. joined ((stor.0, root) ∷ []) ((public.0, root) ∷ []) es) jobs.2
-      ∙ ap (λ x. at_parts x public.0.items jobs.0.items) stor.1 ∙ ap (λ y. at_parts [] y jobs.0.items) public.1 ∙ ap (λ z. at_parts [] [] z) jobs.1 in
+      let one : Entries (KeptRow B) = ([], root) ∷ [] in
+      let all : joined s u j ≡ first = ap (λ es. joined es u j) stor ∙ ap (λ es. joined one es j) public ∙ ap (λ es. joined one one es) jobs in
       subst IsKept (sym all) first_kept

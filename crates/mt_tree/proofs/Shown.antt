@@ -1,12 +1,9 @@
--- The rows of one area's map by their components, and what a page of them shows.
-use Rattle.std.proofs.Common.{◌≡◌, ℕ, ◌+◌, ◌-◌, ◌==◌, ◌&&◌, Bool, true, false, cond, List, [], ◌∷◌, ◌++◌, map, length, take, Some, refl, sym, ap, subst, ◌∙◌, arith, zero, suc, eq-eqb}
+-- The rows of one area by their components, and what a page of them shows.
+use Rattle.std.proofs.Common.{◌≡◌, ℕ, ◌+◌, ◌-◌, ◌==◌, Bool, true, false, cond, List, [], ◌∷◌, ◌++◌, map, length, take, Some, refl, sym, ap, subst, ◌∙◌, arith, zero, suc, eq-eqb}
 use Rattle.std.specs.Prelude.{All}
 use Rattle.std.specs.Cmp.{both_ways, unsigned_Decides}
 use Rattle.std.specs.List.{filter, AllByRecursion}
-use Rattle.std.specs.List.Sorted.{IsStrictlySortedBy}
 use Rattle.std.specs.Map.{keys_of}
-use Rattle.std.specs.Ordering.{is_le}
-use Rattle.std.specs.declared.cmp.Ordering.TheVariants.{Less}
 use Rattle.std.proofs.lemmas.List.{map-append}
 use Rattle.std.proofs.lemmas.List.Elements.{All-from_recursion, recursion_from_All}
 use Rattle.mt_path.specs.AccountPath.{AccountPath, IsPath}
@@ -18,10 +15,11 @@ use Rattle.mt_model.specs.Rows.{Rows, children, is_child, row_of}
 use Rattle.mt_model.proofs.Children.{above-parent, parent-above, length-above}
 use Rattle.mt_model.proofs.RowLaws.{parent-is_child, is_child-parent}
 use Rattle.mt_tree.specs.declared.kept.KeptRow.{KeptRow}
-use Rattle.mt_tree.specs.Kept.{Parts, in_area, joined, parts_cmp, rows_of}
-use Rattle.mt_tree.specs.Walk.{shown}
-use Rattle.mt_tree.proofs.Intervals.{and_first, and_second, both_true, parts_decide, is_one_below, is_from_name, below_by_one, from_parts, later_children}
-use Rattle.mt_tree.proofs.Joined.{Entries, key_cmp, path_in, part}
+use Rattle.mt_tree.specs.Kept.{in_area, joined, rows_of}
+use Rattle.mt_tree.specs.Keys.{Parts}
+use Rattle.mt_tree.specs.Walk.{below_by_one, is_from_name, is_one_below, last_of, lent_row, listed_row, page_of, shown}
+use Rattle.mt_tree.proofs.Intervals.{and_first, and_second, both_true, parts_decide}
+use Rattle.mt_tree.proofs.Joined.{Entries, path_in, part}
 
 -- a path is one below another in the same area where its components are
 child_agrees : (area : Area) (d q : Parts) → is_child (path_in area d) (path_in area q) ≡ is_one_below d q
@@ -39,41 +37,17 @@ child_agrees area d q =
     let last : length q - 1 ≡ length d = omega (arith, long) in
     is_child-parent (path_in area d) (path_in area q) (parent-above (path_in area q) (omega (arith, long)) ∙ ap (λ parts. Some (path_in area parts)) (ap (λ n. take n q) last ∙ front)))
 
--- the rows of a map by their components
-abbrev pub seen : {X : Type 0} → Entries X → List (Parts × X)
-seen es = map (λ e. (e.0.items, e.1)) es
-
-seen_filter : {X : Type 0} (p : Parts → Bool) (es : Entries X) → seen (filter (λ e. p e.0.items && true) es) ≡ filter (λ r. p r.0) (seen es)
-seen_filter p [] = refl
-seen_filter p (e ∷ es) = elim (p e.0.items) as (λ b. seen (cond (b && true) (e ∷ filter (λ e. p e.0.items && true) es) (filter (λ e. p e.0.items && true) es)) ≡ cond b ((e.0.items, e.1) ∷ filter (λ r. p r.0) (seen es)) (filter (λ r. p r.0) (seen es))) [
-  | true ↦ ap (λ l. (e.0.items, e.1) ∷ l) (seen_filter p es)
-  | false ↦ seen_filter p es
-]
-
--- what a range from a path on holds
-pub seen-range : {X : Type 0} (start : Parts) (es found : Entries X) → found ≡ filter (λ e. is_le (parts_cmp start e.0.items) && true) es → seen found ≡ from_parts start (seen es)
-seen-range start es found e = ap seen e ∙ seen_filter (λ q. is_le (parts_cmp start q)) es
-
-all_seen : {X : Type 0} (j : Parts) (es : Entries X) → AllByRecursion (λ y. parts_cmp j y.items ≡ Less) (keys_of es) → AllByRecursion (λ y. parts_cmp j y ≡ Less) (keys_of (seen es))
-all_seen j [] a = tt
-all_seen j (e ∷ es) a = (a.0, all_seen j es a.1)
-
-pub sorted-seen : {X : Type 0} (es : Entries X) → IsStrictlySortedBy key_cmp (keys_of es) → IsStrictlySortedBy parts_cmp (keys_of (seen es))
-unfolding IsStrictlySortedBy
-sorted-seen [] s = tt
-sorted-seen (e ∷ es) s = (all_seen e.0.items es s.0, sorted-seen es s.1)
-
 module _ {B : Type 0} (area : Area) where
-  -- a row as a page shows it
+  -- a row as a copy shows it
   abbrev pub listed : Parts × KeptRow B → Row B
   listed r = shown area r.0 r.1.entry
 
   abbrev placed : List (Parts × KeptRow B) → Rows B
   placed rows = map (λ r. (path_in area r.0, r.1.entry)) rows
 
-  placed_seen : (es : Entries (KeptRow B)) → rows_of (in_area area es) ≡ placed (seen es)
-  placed_seen [] = refl
-  placed_seen (e ∷ es) = ap (λ l. (path_in area e.0.items, e.1.entry) ∷ l) (placed_seen es)
+  placed-rows : (es : Entries (KeptRow B)) → rows_of (in_area area es) ≡ placed es
+  placed-rows [] = refl
+  placed-rows (e ∷ es) = ap (λ l. (path_in area e.0, e.1.entry) ∷ l) (placed-rows es)
 
   placed_cond : (b : Bool) (xs ys : List (Parts × KeptRow B)) → placed (cond b xs ys) ≡ cond b (placed xs) (placed ys)
   placed_cond true xs ys = refl
@@ -95,28 +69,30 @@ module _ {B : Type 0} (area : Area) where
   rows_shown [] = refl
   rows_shown (r ∷ rows) = ap (λ l. listed r ∷ l) (rows_shown rows)
 
-  pub take-shown : (n : ℕ) (es : Entries (KeptRow B)) → map listed (take n (seen es)) ≡ map row_of (take n (rows_of (in_area area es)))
-  take-shown n es = sym (ap (λ rows. map row_of (take n rows)) (placed_seen es) ∙ ap (map row_of) (placed_take n (seen es)) ∙ rows_shown (take n (seen es)))
+  pub take-shown : (n : ℕ) (es : Entries (KeptRow B)) → map listed (take n es) ≡ map row_of (take n (rows_of (in_area area es)))
+  take-shown n es = sym (ap (λ rows. map row_of (take n rows)) (placed-rows es) ∙ ap (map row_of) (placed_take n es) ∙ rows_shown (take n es))
+
+  rows_named : (rows : List (Parts × KeptRow B)) → map lent_row rows ≡ map listed_row (placed rows)
+  rows_named [] = refl
+  rows_named (r ∷ rows) = ap (λ l. (last_of r.0, r.1.entry) ∷ l) (rows_named rows)
 
   -- a page of a directory, by the components
-  pub page-seen : (es : Entries (KeptRow B)) (d : Parts) (m : List ℕ) (limit : ℕ)
-      → map listed (take limit (below_by_one (from_parts (d ++ m ∷ []) (seen es)) d)) ≡ map row_of (listing (rows_of (in_area area es)) (path_in area d) m limit)
-  page-seen es d m limit =
-      ap (λ rows. map listed (take limit rows)) (later_children d m (seen es))
-      ∙ sym (
-      ap (λ rows. map row_of (take limit (filter (λ r. is_from m r.0) (children rows (path_in area d))))) (placed_seen es)
-      ∙ ap (λ rows. map row_of (take limit (filter (λ r. is_from m r.0) rows))) (placed_filter (is_child (path_in area d)) (is_one_below d) (child_agrees area d) (seen es))
-      ∙ ap (λ rows. map row_of (take limit rows)) (placed_filter (is_from m) (is_from_name m) (λ x. refl) (below_by_one (seen es) d))
-      ∙ ap (map row_of) (placed_take limit (filter (λ r. is_from_name m r.0) (below_by_one (seen es) d)))
-      ∙ rows_shown (take limit (filter (λ r. is_from_name m r.0) (below_by_one (seen es) d)))
-      )
+  pub page-shown : (es : Entries (KeptRow B)) (d : Parts) (m : List ℕ) (limit : ℕ) → map lent_row (page_of es d m limit) ≡ map listed_row (listing (rows_of (in_area area es)) (path_in area d) m limit)
+  page-shown es d m limit =
+      rows_named (page_of es d m limit)
+      ∙ ap (map listed_row) (sym (
+      ap (λ rows. take limit (filter (λ r. is_from m r.0) (children rows (path_in area d)))) (placed-rows es)
+      ∙ ap (λ rows. take limit (filter (λ r. is_from m r.0) rows)) (placed_filter (is_child (path_in area d)) (is_one_below d) (child_agrees area d) es)
+      ∙ ap (take limit) (placed_filter (is_from m) (is_from_name m) (λ x. refl) (below_by_one es d))
+      ∙ placed_take limit (filter (λ r. is_from_name m r.0) (below_by_one es d))
+      ))
 
-  each_path : (es : Entries (KeptRow B)) → AllByRecursion IsPath (keys_of (rows_of (in_area area es))) → AllByRecursion (λ q. IsPath (path_in area q)) (keys_of (seen es))
+  each_path : (es : Entries (KeptRow B)) → AllByRecursion IsPath (keys_of (rows_of (in_area area es))) → AllByRecursion (λ q. IsPath (path_in area q)) (keys_of es)
   each_path [] all = tt
   each_path (e ∷ es) all = (all.0, each_path es all.1)
 
-  -- the keys of the map are those of paths
-  pub paths-seen : (es : Entries (KeptRow B)) → All IsPath (keys_of (rows_of (in_area area es))) → AllByRecursion (λ q. IsPath (path_in area q)) (keys_of (seen es))
+  -- the components of each row are those of a path
+  pub paths-seen : (es : Entries (KeptRow B)) → All IsPath (keys_of (rows_of (in_area area es))) → AllByRecursion (λ q. IsPath (path_in area q)) (keys_of es)
   paths-seen es all = each_path es (recursion_from_All IsPath (keys_of (rows_of (in_area area es))) all)
 
 module _ {B : Type 0} where

@@ -9,9 +9,10 @@ use Rattle.std.specs.Cmp.{unsigned_Decides}
 use Rattle.std.specs.Map.{keys_of}
 use Rattle.std.specs.Ordering.{is_le}
 use Rattle.std.specs.declared.cmp.Ordering.TheVariants.{Less}
-use Rattle.mt_tree.specs.Kept.{Parts, parts_cmp}
-use Rattle.mt_tree.specs.Walk.{begins, next_name}
-use Rattle.mt_tree.proofs.Intervals.{parts_decide, and_second, both_true, below_cmp, split_at, is_one_below, below_by_one, from_parts, none_after}
+use Rattle.mt_tree.specs.Kept.{parts_cmp}
+use Rattle.mt_tree.specs.Keys.{IsClear, Parts}
+use Rattle.mt_tree.specs.Walk.{begins, below_by_one, is_one_below, next_name}
+use Rattle.mt_tree.proofs.Intervals.{parts_decide, and_second, both_true, below_cmp, split_at, from_parts, none_after}
 use Rattle.mt_tree.proofs.Skips.{skipped, row_below, reversed, between, twice}
 
 not_equal : (a b : Bool) → (a ≡ true → ⊥) → (a && b) ≡ false
@@ -62,38 +63,42 @@ module _ {X : Type 0} where
   past_first : (t x : Parts) (e : X) (more : List (Parts × X)) → parts_cmp x t ≡ Less → from_parts t ((x, e) ∷ more) ≡ from_parts t more
   past_first t x e more below = ap (λ b. cond b ((x, e) ∷ from_parts t more) (from_parts t more)) (reversed x t below)
 
+-- no byte 0 stands in a component
+abbrev pub AreClear : Parts → Type 0
+AreClear parts = AllByRecursion IsClear parts
+
 -- what is found so far, and the children that are left, are the page; what is left is in order and from the marker on,
 -- and has all rows that are above its first
-pub record Walking {X Y : Type 0} (shows : Parts × X → Y) (P : Parts → Type 0) (rows : List (Parts × X)) (d : Parts) (m : List ℕ) (limit : ℕ) (target : List Y) (out : List Y) (rest : List (Parts × X)) : Type 0 where
+pub record Walking {X Y : Type 0} (shows : Parts × X → Y) (rows : List (Parts × X)) (d : Parts) (m : List ℕ) (limit : ℕ) (target : List Y) (out : List Y) (rest : List (Parts × X)) : Type 0 where
   pub found : out ++ map shows (take (limit - length out) (below_by_one rest d)) ≡ target
   pub room : length out ≤ limit
   pub ordered : IsStrictlySortedBy parts_cmp (keys_of rest)
   pub later : AllByRecursion (λ q. is_le (parts_cmp (d ++ m ∷ []) q) ≡ true) (keys_of rest)
-  pub each : AllByRecursion P (keys_of rest)
+  pub each : AllByRecursion AreClear (keys_of rest)
   pub covers : (x : Parts) (e : X) (more : List (Parts × X)) → rest ≡ (x, e) ∷ more → (t : Parts) → parts_cmp x t ≡ Less → from_parts t rows ≡ from_parts t more
 
-module _ {X Y : Type 0} (shows : Parts × X → Y) (P : Parts → Type 0) (rows : List (Parts × X)) (d : Parts) (m : List ℕ) (limit : ℕ) where
+module _ {X Y : Type 0} (shows : Parts × X → Y) (rows : List (Parts × X)) (d : Parts) (m : List ℕ) (limit : ℕ) where
   covers_first : (x : Parts) (e : X) (more : List (Parts × X)) → from_parts (d ++ m ∷ []) rows ≡ (x, e) ∷ more → (t : Parts) → parts_cmp x t ≡ Less → from_parts t rows ≡ from_parts t more
   covers_first x e more is t below =
       let not_above = (subst (λ rs. AllByRecursion (λ q. is_le (parts_cmp (d ++ m ∷ []) q) ≡ true) (keys_of rs)) is (each_from (d ++ m ∷ []) rows)).0 in
       sym (twice (d ++ m ∷ []) t (between (d ++ m ∷ []) x t not_above below) rows) ∙ ap (from_parts t) is ∙ past_first t x e more below
 
   -- the start
-  pub begun : IsStrictlySortedBy parts_cmp (keys_of rows) → AllByRecursion P (keys_of rows) → (out : List Y) (rest : List (Parts × X)) → out ≡ [] → rest ≡ from_parts (d ++ m ∷ []) rows
-      → Walking shows P rows d m limit (map shows (take limit (below_by_one (from_parts (d ++ m ∷ []) rows) d))) out rest
+  pub begun : IsStrictlySortedBy parts_cmp (keys_of rows) → AllByRecursion AreClear (keys_of rows) → (out : List Y) (rest : List (Parts × X)) → out ≡ [] → rest ≡ from_parts (d ++ m ∷ []) rows
+      → Walking shows rows d m limit (map shows (take limit (below_by_one (from_parts (d ++ m ∷ []) rows) d))) out rest
   begun s all out rest none is =
-      subst (λ o. Walking shows P rows d m limit (map shows (take limit (below_by_one (from_parts (d ++ m ∷ []) rows) d))) o rest) (sym none)
-      (subst (Walking shows P rows d m limit (map shows (take limit (below_by_one (from_parts (d ++ m ∷ []) rows) d))) []) (sym is)
+      subst (λ o. Walking shows rows d m limit (map shows (take limit (below_by_one (from_parts (d ++ m ∷ []) rows) d))) o rest) (sym none)
+      (subst (Walking shows rows d m limit (map shows (take limit (below_by_one (from_parts (d ++ m ∷ []) rows) d))) []) (sym is)
       (record {
         found = let zero_off : limit - 0 ≡ limit = omega arith in ap (λ n. map shows (take n (below_by_one (from_parts (d ++ m ∷ []) rows) d))) zero_off;
         room = omega arith;
         ordered = sorted_from (d ++ m ∷ []) rows s;
         later = each_from (d ++ m ∷ []) rows;
-        each = all_from P (d ++ m ∷ []) rows all;
+        each = all_from AreClear (d ++ m ∷ []) rows all;
         covers = covers_first;
       }))
 
-module _ {X Y : Type 0} (shows : Parts × X → Y) (P : Parts → Type 0) (rows : List (Parts × X)) (d : Parts) (m : List ℕ) (limit : ℕ) (target : List Y) (out : List Y) (rest : List (Parts × X)) (w : Walking shows P rows d m limit target out rest) where
+module _ {X Y : Type 0} (shows : Parts × X → Y) (rows : List (Parts × X)) (d : Parts) (m : List ℕ) (limit : ℕ) (target : List Y) (out : List Y) (rest : List (Parts × X)) (w : Walking shows rows d m limit target out rest) where
   pub full : limit ≤ length out → out ≡ target
   full h =
       let none : limit - length out ≡ 0 = omega arith in
@@ -116,8 +121,8 @@ module _ {X Y : Type 0} (shows : Parts × X → Y) (P : Parts → Type 0) (rows 
     from_marker : is_le (parts_cmp (d ++ m ∷ []) x) ≡ true
     from_marker = (subst (λ rs. AllByRecursion (λ q. is_le (parts_cmp (d ++ m ∷ []) q) ≡ true) (keys_of rs)) first w.later).0
 
-    pub holds : P x
-    holds = (subst (λ rs. AllByRecursion P (keys_of rs)) first w.each).0
+    pub holds : AreClear x
+    holds = (subst (λ rs. AllByRecursion AreClear (keys_of rs)) first w.each).0
 
     pub stop : begins d x ≡ false → out ≡ target
     stop n = no_more (ap (λ rs. below_by_one rs d) first ∙ none_after d m x from_marker n e more ordered)
@@ -137,7 +142,7 @@ module _ {X Y : Type 0} (shows : Parts × X → Y) (P : Parts → Type 0) (rows 
         let next : parts_cmp x x2 ≡ Less = (subst (λ rs. AllByRecursion (λ y. parts_cmp x y ≡ Less) (keys_of rs)) is ordered_rest.0).0 in
         w.covers x e more first t ((lists_total nat_list_cmp_total).trans x x2 t next below) ∙ ap (from_parts t) is ∙ past_first t x2 e2 more2 below
 
-    pub added : begins d x ≡ true → length x ≡ length d + 1 → length out < limit → (longer : List Y) → longer ≡ out ++ shows (x, e) ∷ [] → Walking shows P rows d m limit target longer more
+    pub added : begins d x ≡ true → length x ≡ length d + 1 → length out < limit → (longer : List Y) → longer ≡ out ++ shows (x, e) ∷ [] → Walking shows rows d m limit target longer more
     added b l room longer grown =
         let child : is_one_below d x ≡ true = both_true _ _ (eq-eqb (length x) (length d + 1) l) (and_second _ _ b) in
         let long : length (out ++ shows (x, e) ∷ []) ≡ length out + 1 = length-append out (shows (x, e) ∷ []) in
@@ -151,7 +156,7 @@ module _ {X Y : Type 0} (shows : Parts × X → Y) (P : Parts → Type 0) (rows 
           room = omega arith;
           ordered = ordered_rest.1;
           later = (subst (λ rs. AllByRecursion (λ q. is_le (parts_cmp (d ++ m ∷ []) q) ≡ true) (keys_of rs)) first w.later).1;
-          each = (subst (λ rs. AllByRecursion P (keys_of rs)) first w.each).1;
+          each = (subst (λ rs. AllByRecursion AreClear (keys_of rs)) first w.each).1;
           covers = covers_more;
         }
 
@@ -171,7 +176,7 @@ module _ {X Y : Type 0} (shows : Parts × X → Y) (P : Parts → Type 0) (rows 
       same_children : below_by_one new d ≡ below_by_one more d
       same_children =
           ap (λ rs. below_by_one rs d) (left_over ∙ ap (λ n. from_parts n more) is)
-          ∙ skipped d (get_or x (length d) []) (drop (suc (length d)) x) more (subst (λ z. AllByRecursion (λ y. parts_cmp z y ≡ Less) (keys_of more)) (split_at d x b l) ordered_rest.0)
+          ∙ skipped d (get_or x (length d) []) (drop (suc (length d)) x) more (subst (λ rs. AllByRecursion AreClear (keys_of rs)) first w.each).1 (subst (λ z. AllByRecursion (λ y. parts_cmp z y ≡ Less) (keys_of more)) (split_at d x b l) ordered_rest.0)
 
       covers_new : (x3 : Parts) (e3 : X) (more3 : List (Parts × X)) → new ≡ (x3, e3) ∷ more3 → (t : Parts) → parts_cmp x3 t ≡ Less → from_parts t rows ≡ from_parts t more3
       covers_new x3 e3 more3 eq t under =
@@ -183,13 +188,13 @@ module _ {X Y : Type 0} (shows : Parts × X → Y) (P : Parts → Type 0) (rows 
       no_child : length x ≢ length d + 1 → is_one_below d x ≡ false
       no_child longer = not_equal (length x == length d + 1) _ (λ t. longer ((unsigned_Decides (length x) (length d + 1)).0 t))
 
-      pub skipped_to : length x ≢ length d + 1 → Walking shows P rows d m limit target out new
+      pub skipped_to : length x ≢ length d + 1 → Walking shows rows d m limit target out new
       skipped_to longer = record {
         found = ap (λ rs. out ++ map shows (take (limit - length out) rs)) (same_children ∙ sym (here false (no_child longer))) ∙ w.found;
         room = w.room;
         ordered = subst (λ rs. IsStrictlySortedBy parts_cmp (keys_of rs)) (sym left_over) (sorted_from next more ordered_rest.1);
         later = subst (λ rs. AllByRecursion (λ q. is_le (parts_cmp (d ++ m ∷ []) q) ≡ true) (keys_of rs)) (sym left_over)
             (all_from (λ q. is_le (parts_cmp (d ++ m ∷ []) q) ≡ true) next more (subst (λ rs. AllByRecursion (λ q. is_le (parts_cmp (d ++ m ∷ []) q) ≡ true) (keys_of rs)) first w.later).1);
-        each = subst (λ rs. AllByRecursion P (keys_of rs)) (sym left_over) (all_from P next more (subst (λ rs. AllByRecursion P (keys_of rs)) first w.each).1);
+        each = subst (λ rs. AllByRecursion AreClear (keys_of rs)) (sym left_over) (all_from AreClear next more (subst (λ rs. AllByRecursion AreClear (keys_of rs)) first w.each).1);
         covers = covers_new;
       }

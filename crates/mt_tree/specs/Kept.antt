@@ -1,7 +1,5 @@
--- How the rows of an account are kept: a map an area, keyed by the components, each row beside the number of its children.
+-- How the rows of an account are kept: by area and components, each row beside the number of its children.
 use Rattle.std.specs.Prelude.{◌≡◌, ℕ, ◌+◌, ◌-◌, Bool, List, [], ◌∷◌, ◌++◌, map, length, take, IfSome, All, is_some, if◌then◌else◌}
-use Rattle.std.specs.declared.vec.Vec.{Vec}
-use Rattle.std.specs.declared.alloc.Global.{Global}
 use Rattle.std.specs.declared.cmp.Ordering.{Ordering}
 use Rattle.std.specs.BTreeMap.{is_at}
 use Rattle.std.specs.Cmp.Lexicographic.{slice_cmp}
@@ -14,30 +12,27 @@ use Rattle.mt_types.specs.declared.object.Entry.{Entry}
 use Rattle.mt_types.specs.declared.object.Entry.TheVariants.{Directory}
 use Rattle.mt_model.specs.Rows.{Rows, is_path, children, IsTree}
 use Rattle.mt_tree.specs.declared.kept.KeptRow.{KeptRow}
-
--- the components of a path
-abbrev pub Parts : Type 0
-Parts = List (List ℕ)
+use Rattle.mt_tree.specs.Keys.{Parts}
 
 -- component by component, each by its bytes
 abbrev pub parts_cmp : Parts → Parts → Ordering
 parts_cmp = slice_cmp (slice_cmp nat_cmp)
 
--- the key of a map with these components
-abbrev pub is_key : Parts → Vec (List ℕ) Global → Bool
-is_key parts key = is_at (parts_cmp parts) key.items
+-- two paths of one area are one
+abbrev pub is_key : Parts → Parts → Bool
+is_key parts = is_at (parts_cmp parts)
 
 -- the components of the path above
 abbrev pub parts_above : Parts → Parts
 parts_above parts = take (length parts - 1) parts
 
 module _ {X : Type 0} where
-  -- the entries of one area's map, with their paths
-  abbrev pub in_area : Area → List (Vec (List ℕ) Global × X) → List (AccountPath × X)
-  in_area area entries = map (λ e. (record { area = area; parts = e.0.items }, e.1)) entries
+  -- the rows of one area, with their paths
+  abbrev pub in_area : Area → List (Parts × X) → List (AccountPath × X)
+  in_area area entries = map (λ e. (record { area = area; parts = e.0 }, e.1)) entries
 
   -- those of the three areas, in the order of the areas
-  abbrev pub joined : List (Vec (List ℕ) Global × X) → List (Vec (List ℕ) Global × X) → List (Vec (List ℕ) Global × X) → List (AccountPath × X)
+  abbrev pub joined : List (Parts × X) → List (Parts × X) → List (Parts × X) → List (AccountPath × X)
   joined stor public jobs = in_area Stor stor ++ (in_area Public public ++ in_area Jobs jobs)
 
 -- with another value at the first entry whose key passes
@@ -58,11 +53,11 @@ module _ {B : Type 0} where
   childless entry = record { entry = entry; children = 0 }
 
   -- a root without children, made at moment 0
-  abbrev pub IsRootAlone : List (Vec (List ℕ) Global × KeptRow B) → Type 0
-  IsRootAlone es = (key : Vec (List ℕ) Global) × (key.items ≡ []) × (es ≡ (key, childless (Directory 0)) ∷ [])
+  abbrev pub IsRootAlone : List (Parts × KeptRow B) → Type 0
+  IsRootAlone es = es ≡ ([], childless (Directory 0)) ∷ []
 
   -- with one child more at the path above, where no row stood at the path
-  abbrev pub made_room : Parts → List (Vec (List ℕ) Global × KeptRow B) → List (Vec (List ℕ) Global × KeptRow B)
+  abbrev pub made_room : Parts → List (Parts × KeptRow B) → List (Parts × KeptRow B)
   made_room parts es = if is_some (lookup (is_key parts) es) then es else changed (is_key (parts_above parts)) raised es
 
   -- the rows, without the numbers

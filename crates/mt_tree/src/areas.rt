@@ -1,12 +1,13 @@
-//! The rows of an account, in a map an area.
+//! The rows of an account, area by area.
 ghost use Rattle.std.specs.Prelude.{◌≡◌, true, false, IfOk, OnOk, OnErr, Some, None, is_some, option_copied};
 ghost use Rattle.std.specs.Map.{lookup};
 ghost use Rattle.mt_path.specs.AccountPath.{AccountPath, parent_of};
 ghost use Rattle.mt_model.specs.Rows.{at, first_rows, is_directory, is_path, remove_refusal, with_row, without_row};
 ghost use Rattle.mt_tree.specs.Areas.{all_of, kept_of, map_of};
 ghost use Rattle.mt_tree.specs.Kept.{IsKept};
+ghost use Rattle.mt_tree.specs.Keys.{HaveKey};
 
-use crate::kept::{Kept, KeptRow, insert_kept, remove_kept, root_alone};
+use crate::kept::{Kept, KeptRow};
 use mt_types::{Area, Bytes, Entry, Path};
 use std::alloc::{AllocError, Global};
 
@@ -30,15 +31,15 @@ impl<B> Areas<B> {
         ensures kept { IfOk result (λ areas. IsKept (kept_of areas)) }
     {
         Ok(Areas {
-            stor: root_alone(alloc)?,
-            public: root_alone(alloc)?,
-            jobs: root_alone(alloc)?,
+            stor: Kept::root_alone(alloc)?,
+            public: Kept::root_alone(alloc)?,
+            jobs: Kept::root_alone(alloc)?,
         })
     }
 
-    /// The map of an area.
-    pub fn map(&self, area: Area) -> &Kept<B>
-        ensures { result.now.entries ≡ map_of self.now area }
+    /// The rows of an area.
+    pub fn kept(&self, area: Area) -> &Kept<B>
+        ensures { result.now ≡ map_of self.now area }
     {
         match area {
             Area::Stor => &self.stor,
@@ -49,9 +50,10 @@ impl<B> Areas<B> {
 
     /// The row at the path of these components.
     pub fn get(&self, area: Area, parts: &[Bytes]) -> Option<&KeptRow<B>>
+        requires { HaveKey parts.now }
         ensures { option_copied result ≡ lookup (is_path (record { area = area; parts = parts.now })) (kept_of self.now) }
     {
-        self.map(area).get(parts)
+        self.kept(area).get(parts)
     }
 
     /// Puts an entry without children at a path, in the place of the one that stood there.
@@ -66,9 +68,9 @@ impl<B> Areas<B> {
         ensures kept { IsKept (kept_of self.new) }
     {
         match path.area() {
-            Area::Stor => insert_kept(&mut self.stor, path.into_parts(), entry),
-            Area::Public => insert_kept(&mut self.public, path.into_parts(), entry),
-            Area::Jobs => insert_kept(&mut self.jobs, path.into_parts(), entry),
+            Area::Stor => self.stor.insert(path.parts(), entry),
+            Area::Public => self.public.insert(path.parts(), entry),
+            Area::Jobs => self.jobs.insert(path.parts(), entry),
         }
     }
 
@@ -82,9 +84,9 @@ impl<B> Areas<B> {
         ensures kept { IsKept (kept_of self.new) }
     {
         match path.area() {
-            Area::Stor => remove_kept(&mut self.stor, path.parts()),
-            Area::Public => remove_kept(&mut self.public, path.parts()),
-            Area::Jobs => remove_kept(&mut self.jobs, path.parts()),
+            Area::Stor => self.stor.remove(path.parts()),
+            Area::Public => self.public.remove(path.parts()),
+            Area::Jobs => self.jobs.remove(path.parts()),
         }
     }
 }

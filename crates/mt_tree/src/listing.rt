@@ -1,51 +1,72 @@
 //! Pages of a directory.
-ghost use Rattle.std.specs.Prelude.{◌≡◌, ◌-◌, ◌∷◌, [], ◌++◌, All, IfOk, OnOk, length, map, option_copied, take};
+ghost use Rattle.std.specs.Prelude.{◌≡◌, ◌-◌, ◌==◌, ◌∷◌, [], ◌++◌, All, IfOk, OnOk, length, map, option_copied, position, take};
 ghost use Rattle.std.specs.Map.{keys_of};
 ghost use Rattle.mt_path.specs.AccountPath.{IsPath};
-ghost use Rattle.mt_model.specs.Listing.{listing};
 ghost use Rattle.mt_model.specs.Rows.{row_of};
 ghost use Rattle.mt_tree.specs.Kept.{in_area, rows_of};
-ghost use Rattle.mt_tree.specs.Walk.{begins, next_name, rows_after, shown};
+ghost use Rattle.mt_tree.specs.Keys.{AreKeys, HaveKey, key_bytes, opened, parts_of};
+ghost use Rattle.mt_tree.specs.Walk.{cleared, lent_row, page_of, place_in, rows_after, shown};
+ghost use Rattle.mt_tree.specs.Lent.{lent};
 
-use crate::kept::{Kept, KeptRow};
-use mt_base::copy_all;
+use crate::kept::{KeptRow, Map};
+use crate::key::{key_of, parts_of};
 use mt_types::{Area, Bytes, Duplicate, Entry, Path, Row};
 use std::alloc::{AllocError, Global};
 use std::cmp::Ordering;
 use std::collections::btree_map::Range;
 use std::ops::Bound;
 
+/// A child of a directory, lent by the tree.
+#[derive(Drop)]
+pub struct Listed<'a, B> {
+    /// The last component of its path.
+    pub name: &'a [u8],
+    /// What stands there.
+    pub entry: &'a Entry<B>,
+}
+
+/// Where a key stands, beside those below a directory.
+#[derive(Clone, Copy, Debug, PartialEq, Eq)]
+pub enum Place {
+    /// Not below it.
+    Outside,
+    /// One below it.
+    Child,
+    /// Below a child, whose key is the front of so many bytes.
+    Below(usize),
+}
+
 /// At most `limit` children of a directory, from the first whose name is not below the marker. It walks over
 /// the rows from the marker on, and where it meets a descendant of a child, it goes on at the next name.
-pub fn list_rows<B: Duplicate>(
+pub fn page_rows<'a, B>(
     alloc: Global,
-    area: Area,
-    rows: &Kept<B>,
+    rows: &'a Map<B>,
     dir: &[Bytes],
     marker: &[u8],
     limit: usize,
-) -> Result<Vec<Row<B>>, AllocError>
-    requires paths { All IsPath (keys_of (rows_of (in_area area rows.now.entries))) }
-    ensures { IfOk result (λ v. v.items ≡ map row_of (listing (rows_of (in_area area rows.now.entries)) (record { area = area; parts = dir.now }) marker.now limit)) }
+) -> Result<Vec<Listed<'a, B>>, AllocError>
+    requires keys { AreKeys rows.now.entries }
+    requires dir { HaveKey dir.now }
+    ensures { IfOk result (λ v. map lent v.items ≡ map lent_row (page_of (opened rows.now.entries) dir.now marker.now limit)) }
 {
-    let start = below(alloc, dir, Vec::from_slice(alloc, marker)?)?;
+    let front = front_of(alloc, dir)?;
+    let start = start_of(alloc, &front, marker)?;
     let mut out = Vec::new(alloc);
     let mut rest = rows.range((Bound::Included(&start), Bound::Unbounded));
     'walk: while out.len() < limit {
-        let Some((path, row)) = rest.next() else {
+        let Some((key, row)) = rest.next() else {
             return Ok(out);
         };
-        if !begins(dir, path) {
-            return Ok(out);
-        }
-        if path.len() == dir.len() + 1 {
-            out.push(shown(alloc, area, path, row.entry())?)?;
-        } else {
-            let Some(name) = path.get(dir.len()) else {
-                return Ok(out);
-            };
-            let next = next_below(alloc, dir, name)?;
-            rest = rows.range((Bound::Included(&next), Bound::Unbounded));
+        match place_in(&front, key) {
+            Place::Outside => return Ok(out),
+            Place::Child => out.push(Listed {
+                name: &key[front.len()..],
+                entry: row.entry(),
+            })?,
+            Place::Below(end) => {
+                let next = next_key(alloc, &key[..end])?;
+                rest = rows.range((Bound::Included(&next), Bound::Unbounded));
+            }
         }
     }
     Ok(out)
@@ -55,13 +76,14 @@ pub fn list_rows<B: Duplicate>(
 pub fn copy_rows<B: Duplicate>(
     alloc: Global,
     area: Area,
-    rows: &Kept<B>,
+    rows: &Map<B>,
     after: Option<&Path>,
     limit: usize,
     out: &mut Vec<Row<B>>,
 ) -> Result<(), AllocError>
-    requires paths { All IsPath (keys_of (rows_of (in_area area rows.now.entries))) }
-    ensures { OnOk result (out.new.items ≡ out.old.items ++ map row_of (take (limit - length out.old.items) (rows_after (option_copied after.entry) (rows_of (in_area area rows.now.entries))))) }
+    requires keys { AreKeys rows.now.entries }
+    requires paths { All IsPath (keys_of (rows_of (in_area area (opened rows.now.entries)))) }
+    ensures { OnOk result (out.new.items ≡ out.old.items ++ map row_of (take (limit - length out.old.items) (rows_after (option_copied after.entry) (rows_of (in_area area (opened rows.now.entries)))))) }
 {
     let Some(path) = after else {
         return push_rows(alloc, area, rows.range(..), limit, out);
@@ -70,7 +92,7 @@ pub fn copy_rows<B: Duplicate>(
         Ordering::Less => Ok(()),
         Ordering::Greater => push_rows(alloc, area, rows.range(..), limit, out),
         Ordering::Equal => {
-            let start = copy_all(alloc, path.parts())?;
+            let start = Vec::from_slice(alloc, key_of(path.parts()).as_slice())?;
             let rest = rows.range((Bound::Excluded(&start), Bound::Unbounded));
             push_rows(alloc, area, rest, limit, out)
         }
@@ -81,60 +103,89 @@ pub fn copy_rows<B: Duplicate>(
 fn push_rows<B: Duplicate>(
     alloc: Global,
     area: Area,
-    rest: Range<'_, Vec<Bytes>, KeptRow<B>>,
+    rest: Range<'_, Vec<u8>, Box<KeptRow<B>>>,
     limit: usize,
     out: &mut Vec<Row<B>>,
 ) -> Result<(), AllocError>
-    requires paths { All IsPath (keys_of (rows_of (in_area area rest))) }
-    ensures { OnOk result (out.new.items ≡ out.old.items ++ map row_of (take (limit - length out.old.items) (rows_of (in_area area rest.entry)))) }
+    requires paths { All IsPath (keys_of (rows_of (in_area area (opened rest)))) }
+    ensures { OnOk result (out.new.items ≡ out.old.items ++ map row_of (take (limit - length out.old.items) (rows_of (in_area area (opened rest.entry))))) }
 {
-    for (path, row) in rest {
+    for (key, row) in rest {
         if out.len() >= limit {
             return Ok(());
         }
-        out.push(shown(alloc, area, path, row.entry())?)?;
+        out.push(shown(alloc, area, key, row.entry())?)?;
     }
     Ok(())
 }
 
-// Whether one path begins with another.
-fn begins(dir: &[Bytes], path: &[Bytes]) -> bool
-    ensures { result ≡ begins dir.now path.now }
+// Where a key stands, beside those that have this front.
+fn place_in(front: &[u8], key: &[u8]) -> Place
+    ensures { result ≡ place_in front.now key.now }
 {
-    dir.len() <= path.len() && path[..dir.len()] == dir[..]
+    if !key.starts_with(front) {
+        return Place::Outside;
+    }
+    match zero_at(&key[front.len()..]) {
+        Some(at) => Place::Below(front.len() + at),
+        None => Place::Child,
+    }
 }
 
-// A row as a listing shows it.
+// The place of the first byte 0.
+fn zero_at(bytes: &[u8]) -> Option<usize>
+    ensures { result ≡ position (λ b. b == 0) bytes.now }
+{
+    bytes.iter().position(|b| *b == 0)
+}
+
+// What the keys below a directory begin with.
+fn front_of(alloc: Global, dir: &[Bytes]) -> Result<Vec<u8>, AllocError>
+    requires { HaveKey dir.now }
+    ensures { IfOk result (λ v. v.items ≡ key_bytes dir.now ++ 0 ∷ []) }
+{
+    let mut front = Vec::from_slice(alloc, key_of(dir).as_slice())?;
+    front.push(0)?;
+    Ok(front)
+}
+
+// Where the names of a directory from the marker on begin.
+fn start_of(alloc: Global, front: &[u8], marker: &[u8]) -> Result<Vec<u8>, AllocError>
+    ensures { IfOk result (λ v. v.items ≡ front.now ++ cleared marker.now) }
+{
+    let mut start = Vec::from_slice(alloc, front)?;
+    for b in marker {
+        if *b == 0 {
+            start.push(1)?;
+            return Ok(start);
+        }
+        start.push(*b)?;
+    }
+    Ok(start)
+}
+
+// Where the next greater names begin.
+fn next_key(alloc: Global, key: &[u8]) -> Result<Vec<u8>, AllocError>
+    ensures { IfOk result (λ v. v.items ≡ key.now ++ 1 ∷ []) }
+{
+    let mut next = Vec::from_slice(alloc, key)?;
+    next.push(1)?;
+    Ok(next)
+}
+
+// A row as a copy shows it.
 fn shown<B: Duplicate>(
     alloc: Global,
     area: Area,
-    path: &[Bytes],
+    key: &[u8],
     entry: &Entry<B>,
 ) -> Result<Row<B>, AllocError>
-    requires { IsPath (record { area = area; parts = path.now }) }
-    ensures { IfOk result (λ row. row ≡ shown area path.now entry.now) }
+    requires { IsPath (record { area = area; parts = parts_of key.now }) }
+    ensures { IfOk result (λ row. row ≡ shown area (parts_of key.now) entry.now) }
 {
-    let parts = copy_all(alloc, path)?;
+    let parts = parts_of(alloc, key)?;
     Ok(Row {
         path: Path::from_parts(area, parts),
         entry: entry.copy(alloc)?,
     })
-}
-
-// The path of the least name above a name, in a directory.
-fn next_below(alloc: Global, dir: &[Bytes], name: &Bytes) -> Result<Vec<Bytes>, AllocError>
-    ensures { IfOk result (λ v. v.items ≡ dir.now ++ next_name name.now ∷ []) }
-{
-    let mut next = name.copy(alloc)?.into_vec();
-    next.push(0)?;
-    below(alloc, dir, next)
-}
-
-// The path of a name in a directory.
-fn below(alloc: Global, dir: &[Bytes], name: Vec<u8>) -> Result<Vec<Bytes>, AllocError>
-    ensures { IfOk result (λ v. v.items ≡ dir.now ++ name.items ∷ []) }
-{
-    let mut path = copy_all(alloc, dir)?;
-    path.push(Bytes::from_vec(name))?;
-    Ok(path)
 }

@@ -7,7 +7,7 @@ ghost use Rattle.mt_tree.specs.Plain.{pairs};
 use mt_types::{Duplicate, Path, Row, RowList, Sequence};
 use std::alloc::{AllocError, Global};
 
-/// What [`crate::Tree::list`] gives of a tree that has these rows.
+/// Copies of the rows that [`crate::Tree::page`] lends of a tree that has these rows.
 pub fn list<B: Duplicate>(
     alloc: Global,
     rows: &[Row<B>],

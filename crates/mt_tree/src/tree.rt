@@ -1,14 +1,17 @@
 //! The tree of an account.
-ghost use Rattle.std.specs.Prelude.{◌≡◌, IfOk, OnOk, OnErr, None, is_some, option_copied, length, map, take};
+ghost use Rattle.std.specs.Prelude.{◌≡◌, All, IfOk, OnOk, OnErr, None, is_some, option_copied, length, map, take};
 ghost use Rattle.std.specs.Map.{lookup};
+ghost use Rattle.mt_path.specs.AccountPath.{IsComponent};
 ghost use Rattle.mt_model.specs.Listing.{listing, result_set_size};
 ghost use Rattle.mt_model.specs.Rows.{at, first_rows, make_directory_refusal, parent_refusal, put_refusal, remove_refusal, row_of, with_row, without_row};
 ghost use Rattle.mt_types.specs.declared.object.Entry.TheVariants as entry;
 ghost use Rattle.mt_tree.specs.Answer.{answer};
-ghost use Rattle.mt_tree.specs.Walk.{rows_after};
+ghost use Rattle.mt_tree.specs.Keys.{HaveKey};
+ghost use Rattle.mt_tree.specs.Lent.{lent};
+ghost use Rattle.mt_tree.specs.Walk.{listed_row, rows_after};
 
 use crate::areas::Areas;
-use crate::listing::{copy_rows, list_rows};
+use crate::listing::{Listed, copy_rows, page_rows};
 use mt_types::{Area, Bytes, Duplicate, Entry, Object, Path, Refusal, RowList, Sequence};
 use std::alloc::{AllocError, Global};
 use std::marker::Model;
@@ -139,23 +142,21 @@ impl<B> Tree<B> {
     }
 
     /// At most `limit` children of a directory in the order of their names, from the first whose name is not
-    /// below the marker; none where no directory stands. The marker need not be a name of a child. It costs
-    /// a look-up for each row, however many rows stand below the children.
-    pub fn list(
-        &self,
+    /// below the marker; none where no directory stands. The marker need not be a name of a child. Names and
+    /// entries are lent, and none is copied. It costs a look-up for each row, however many rows stand below the
+    /// children.
+    pub fn page<'a>(
+        &'a self,
         alloc: Global,
         dir: &Path,
         marker: &[u8],
         limit: usize,
-    ) -> Result<RowList<B>, AllocError>
-    where
-        B: Duplicate,
-        ensures { IfOk result (λ rows. rows ≡ map row_of (listing self.now dir.now marker.now limit)) }
+    ) -> Result<Vec<Listed<'a, B>>, AllocError>
+        ensures rows { IfOk result (λ page. map lent page.items ≡ map listed_row (listing self.now dir.now marker.now limit)) }
+        ensures names { IfOk result (λ page. All (λ x. IsComponent x.name.now) page.items) }
     {
-        let area = dir.area();
-        let rows = self.areas.map(area);
-        let page = list_rows(alloc, area, rows, dir.parts(), marker, limit)?;
-        Ok(Sequence::from_vec(page))
+        let rows = self.areas.kept(dir.area()).map();
+        page_rows(alloc, rows, dir.parts(), marker, limit)
     }
 
     /// At most `limit` rows in the order of their paths, from the first above a path, or from the first of
@@ -172,14 +173,22 @@ impl<B> Tree<B> {
     {
         let areas = &self.areas;
         let mut out = Vec::new(alloc);
-        copy_rows(alloc, Area::Stor, &areas.stor, after, limit, &mut out)?;
-        copy_rows(alloc, Area::Public, &areas.public, after, limit, &mut out)?;
-        copy_rows(alloc, Area::Jobs, &areas.jobs, after, limit, &mut out)?;
+        copy_rows(alloc, Area::Stor, areas.stor.map(), after, limit, &mut out)?;
+        copy_rows(
+            alloc,
+            Area::Public,
+            areas.public.map(),
+            after,
+            limit,
+            &mut out,
+        )?;
+        copy_rows(alloc, Area::Jobs, areas.jobs.map(), after, limit, &mut out)?;
         Ok(Sequence::from_vec(out))
     }
 
     // What stands at the path of these components.
     fn entry(&self, area: Area, parts: &[Bytes]) -> Option<&Entry<B>>
+        requires { HaveKey parts.now }
         ensures { option_copied result ≡ at self.now (record { area = area; parts = parts.now }) }
     {
         match self.areas.get(area, parts) {

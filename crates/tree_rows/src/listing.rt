@@ -2,7 +2,7 @@
 //! moment.
 use crate::words::path_at;
 use mt_rows::{Row, Stop, put_escaped};
-use mt_tree::{Entry, Path, Tree, plain};
+use mt_tree::{Entry, Listed, Path, Tree, plain};
 use std::alloc::{AllocError, Global};
 
 /// More rows than a tree of this table has.
@@ -58,12 +58,24 @@ fn put_rows(rows: &[mt_tree::Row<u64>], out: &mut String) -> Result<(), AllocErr
     Ok(())
 }
 
+// Children that are lent, each by its name.
+fn put_listed(page: &[Listed<u64>], out: &mut String) -> Result<(), AllocError> {
+    let mut between = " ";
+    for listed in page {
+        out.push_str(between)?;
+        put_escaped(out, listed.name)?;
+        put_entry(listed.entry, out)?;
+        between = ", ";
+    }
+    Ok(())
+}
+
 // `list PATH MARKER LIMIT`: the number of children, and a page of them.
 fn put_page(alloc: Global, tree: &Tree<u64>, row: &Row, out: &mut String) -> Result<(), Stop> {
     let dir = path_at(alloc, row, 1)?;
-    let page = tree.list(alloc, &dir, row.bytes(2)?, size_at(row, 3)?)?;
+    let page = tree.page(alloc, &dir, row.bytes(2)?, size_at(row, 3)?)?;
     write!(out, "{}:", tree.count(&dir))?;
-    put_rows(page.as_slice(), out)?;
+    put_listed(&page, out)?;
     Ok(())
 }
 
@@ -107,7 +119,7 @@ fn put_pages(alloc: Global, tree: &Tree<u64>, row: &Row, out: &mut String) -> Re
     let limit = size_at(row, 2)?;
     let mut sum: usize = 0;
     for _ in 0..row.number(3)?.min(MOST_TIMES) {
-        sum = sum.wrapping_add(tree.list(alloc, &dir, b"", limit)?.len());
+        sum = sum.wrapping_add(tree.page(alloc, &dir, b"", limit)?.len());
     }
     write!(out, "{sum}")?;
     Ok(())

@@ -1,23 +1,33 @@
--- The path that comes back with the error is the one that was handed in.
-use Rattle.std.proofs.Common.{◌≡◌, ◌-◌, ℕ, List, ap, ◌∙◌, sym, take, vec_len}
+-- A number that was raised for a row that then found no memory is lowered again.
+use Rattle.std.proofs.Common.{refl, sym, ap, subst, ◌∙◌}
+use Rattle.mt_tree.specs.Kept.{childless, parts_above}
+use Rattle.mt_tree.specs.Keys.{IsKey, opened, parts_of}
+use Rattle.mt_tree.proofs.Boxed.{inserted, room-made}
+use Rattle.mt_tree.proofs.Keys.{HaveKey-take, IsKey-from_parts, parts_of-key}
 use Rattle.mt_tree.proofs.Restored.{counted_again, restored}
 use Rattle.mt_tree.proofs.kept.insert_kept.Goals as goal
 
-same_front : (n m k : ℕ) (xs ys zs : List (List ℕ)) → n ≡ k → xs ≡ zs → m ≡ k → ys ≡ zs → take (n - 1) xs ≡ take (m - 1) ys
-same_front n m k xs ys zs e f g h = ap (take (n - 1)) f ∙ ap (λ i. take (i - 1) zs) (e ∙ sym g) ∙ ap (take (m - 1)) (sym h)
+pub raise_if-requires-clause-key : goal.raise_if-requires-clause-key
+raise_if-requires-clause-key g c = HaveKey-take _ _ c.requires.key
 
-pub lower_if-requires : goal.lower_if-requires
-lower_if-requires g c = record {
-  counted = counted_again _ _ c.args.rows.now.entries c.raise_if.new.rows.entries c.insert.new.self.entries
-      (same_front c.len-in-Err.result c.len-2.result (vec_len c.args.path) _ _ c.args.path.items
-      (c.len-in-Err.ensures ∙ ap (λ v. vec_len v.0) c.in-Err.ensures.value_returned) (c.deref-in-Err.ensures.value ∙ ap (λ v. v.0.items) c.in-Err.ensures.value_returned) c.len-2.ensures c.deref-2.ensures.value)
-      c.in-Err.ensures.err c.is_new-is_new.result c.raise_if.ensures.raised;
-}
+pub put_row-requires-clause-key : goal.put_row-requires-clause-key
+put_row-requires-clause-key g c = subst IsKey (sym (c.in_ok-key.ensures.items ∙ c.as_slice.ensures.value ∙ c.key_of.ensures)) (IsKey-from_parts c.args.parts.now c.requires.key.clear)
 
-pub returns-clause-err : goal.returns-clause-err
-returns-clause-err g c =
-    restored _ _ c.args.rows.now.entries c.raise_if.new.rows.entries c.insert.new.self.entries
-    (same_front c.len-in-Err.result c.len-2.result (vec_len c.args.path) _ _ c.args.path.items
-    (c.len-in-Err.ensures ∙ ap (λ v. vec_len v.0) c.in-Err.ensures.value_returned) (c.deref-in-Err.ensures.value ∙ ap (λ v. v.0.items) c.in-Err.ensures.value_returned) c.len-2.ensures c.deref-2.ensures.value)
-    c.in-Err.ensures.err c.lower_if.new.rows.entries c.is_new-is_new.result
-    c.raise_if.ensures.raised c.raise_if.ensures.unchanged c.lower_if.ensures.lowered c.lower_if.ensures.unchanged
+pub lower_if-requires-clause-key : goal.lower_if-requires-clause-key
+lower_if-requires-clause-key g c = HaveKey-take _ _ c.requires.key
+
+pub lower_if-requires-clause-counted : goal.lower_if-requires-clause-counted
+lower_if-requires-clause-counted g c =
+    counted_again (parts_above c.args.parts.now) _ (opened c.args.rows.now.entries) (opened c.raise_if.new.rows.entries) (opened c.put_row.new.rows.entries) refl (ap opened c.in-Err.ensures.err) c.is_new-is_new.result c.raise_if.ensures.raised
+
+pub returns-in-Ok-clause-ok : goal.returns-in-Ok-clause-ok
+returns-in-Ok-clause-ok g c =
+    inserted c.args.parts.now (parts_of c.in_ok-key.key.items) (opened c.args.rows.now.entries) (opened c.raise_if.new.rows.entries) (opened c.put_row.new.rows.entries) c.in_ok-row.row.value (childless c.args.entry) c.in-Ok.ensures.ok
+    (room-made c.args.parts.now (opened c.args.rows.now.entries) (opened c.raise_if.new.rows.entries) c.is_new-is_new.result c.is_new-is_new.ensures c.raise_if.ensures.raised (λ n. ap opened (c.raise_if.ensures.unchanged n)))
+    (ap parts_of (c.in_ok-key.ensures.items ∙ c.as_slice.ensures.value ∙ c.key_of.ensures) ∙ parts_of-key c.args.parts.now c.requires.key.clear)
+    c.in_ok-row.ensures.ok
+
+pub returns-in-Err-clause-err : goal.returns-in-Err-clause-err
+returns-in-Err-clause-err g c =
+    restored (parts_above c.args.parts.now) _ (opened c.args.rows.now.entries) (opened c.raise_if.new.rows.entries) (opened c.put_row.new.rows.entries) refl (ap opened c.in-Err.ensures.err) (opened c.lower_if.new.rows.entries) c.is_new-is_new.result
+    c.raise_if.ensures.raised (λ n. ap opened (c.raise_if.ensures.unchanged n)) c.lower_if.ensures.lowered (λ n. ap opened (c.lower_if.ensures.unchanged n))

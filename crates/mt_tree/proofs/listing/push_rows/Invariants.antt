@@ -3,12 +3,13 @@ use Rattle.std.proofs.Common.{◌-◌, ◌++◌, length, map, take}
 use Rattle.mt_path.specs.AccountPath.{IsPath}
 use Rattle.mt_model.specs.Rows.{row_of}
 use Rattle.mt_tree.specs.Kept.{in_area, rows_of}
+use Rattle.mt_tree.specs.Keys.{opened}
 use Rattle.mt_tree.proofs.Copies.{Copying}
 use Rattle.mt_tree.proofs.Joined.{path_in}
-use Rattle.mt_tree.proofs.Shown.{listed, seen}
+use Rattle.mt_tree.proofs.Shown.{listed}
 use Rattle.mt_tree.proofs.listing.push_rows.Given as goal
 
-abbrev pub invariant-loop-path : goal.invariant-loop-path
-invariant-loop-path g l =
+abbrev pub invariant-loop-key : goal.invariant-loop-key
+invariant-loop-key g l =
     Copying (listed l.area) (λ q. IsPath (path_in l.area q)) l.limit
-    (l.fn.out.items ++ map row_of (take (l.limit - length l.fn.out.items) (rows_of (in_area l.area l.fn.rest)))) l.out.items (seen l.path-iterator)
+    (l.fn.out.items ++ map row_of (take (l.limit - length l.fn.out.items) (rows_of (in_area l.area (opened l.fn.rest))))) l.out.items (opened l.key-iterator)

@@ -7,5 +7,5 @@ use Rattle.mt_tree.proofs.areas.Areas.get.Goals as goal
 
 pub returns : goal.returns
 returns g c =
-    c.get.ensures.value ∙ ap (lookup (is_key c.args.parts.now)) (c.map.ensures ∙ map-is c.args.self.now c.args.area)
-    ∙ sym (lookup-joined c.args.self.now.stor.entries c.args.self.now.public.entries c.args.self.now.jobs.entries c.args.area c.args.parts.now)
+    c.get.ensures ∙ ap (lookup (is_key c.args.parts.now)) (c.kept.ensures ∙ map-is c.args.self.now c.args.area)
+    ∙ sym (lookup-joined c.args.self.now.stor c.args.self.now.public c.args.self.now.jobs c.args.area c.args.parts.now)

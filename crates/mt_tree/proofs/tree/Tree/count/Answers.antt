@@ -1,10 +1,15 @@
-use Rattle.std.proofs.Common.{◌≡◌, sym, ap, ◌∙◌}
+use Rattle.std.proofs.Common.{◌≡◌, sym, ap, subst, ◌∙◌}
 use Rattle.mt_model.specs.Listing.{result_set_size}
 use Rattle.mt_tree.specs.Areas.{all_of, kept_of}
+use Rattle.mt_tree.specs.Keys.{HaveKey}
+use Rattle.mt_tree.proofs.PathKeys.{HaveKey-from_path}
 use Rattle.mt_tree.proofs.Found.{count-found, count-missing}
 use Rattle.mt_tree.proofs.Placed.{path_is}
 use Rattle.mt_tree.proofs.Joined.{path_in}
 use Rattle.mt_tree.proofs.tree.Tree.count.Goals as goal
+
+pub get-requires : goal.get-requires
+get-requires g c = subst HaveKey (sym c.parts.ensures.value) (HaveKey-from_path c.args.dir.now c.parts.ensures.path)
 
 pub returns-in-Some : goal.returns-in-Some
 returns-in-Some g c =

@@ -1,8 +1,14 @@
-use Rattle.std.proofs.Common.{Some, ap, sym, ◌∙◌}
+use Rattle.std.proofs.Common.{Some, ap, sym, subst, ◌∙◌}
 use Rattle.mt_model.specs.Rows.{directory_refusal}
 use Rattle.mt_tree.specs.Answer.{answer}
+use Rattle.mt_tree.specs.Keys.{HaveKey}
+use Rattle.mt_tree.proofs.Keys.{HaveKey-take}
+use Rattle.mt_tree.proofs.PathKeys.{HaveKey-from_path}
 use Rattle.mt_tree.proofs.Found.{parent_refusal-at}
 use Rattle.mt_tree.proofs.tree.Tree.may_stand.Goals as goal
+
+pub entry-requires : goal.entry-requires
+entry-requires g c = HaveKey-take _ _ (subst HaveKey (sym c.parts-parts.ensures.value) (HaveKey-from_path c.args.path.now c.parts-parts.ensures.path))
 
 pub returns-in-None : goal.returns-in-None
 returns-in-None g c =
