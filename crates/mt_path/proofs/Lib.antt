@@ -1,4 +1,5 @@
 pub mod Below
+pub mod Bounded
 pub mod Children
 pub mod Components
 pub mod Cuts

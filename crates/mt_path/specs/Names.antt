@@ -1,5 +1,5 @@
 -- Names of paths, in request targets and in texts, and what is read from them.
-use Rattle.std.specs.Prelude.{Bool, true, ◌≤◌, ◌≡◌, ℕ, ◌||◌, ◌==◌, not, nat_lt, nat_eq, List, [], ◌∷◌, ◌++◌, length, drop, map, filter, codes, bytes_eq, Option, Some, None, Result, Ok, Err, ⊤, if◌then◌else◌}
+use Rattle.std.specs.Prelude.{Bool, true, ◌≤◌, ◌<◌, ◌≡◌, ℕ, ◌||◌, ◌==◌, not, nat_lt, nat_eq, List, [], ◌∷◌, ◌++◌, length, drop, map, filter, codes, bytes_eq, Option, Some, None, Result, Ok, Err, ⊤, if◌then◌else◌}
 use Rattle.std.specs.List.{before_first, list_all, slice_split, starts_with}
 use Rattle.percent_encoding.specs.Percent.{percent_decode}
 use Rattle.mt_path.specs.AccountPath.{AccountPath, area_name, is_component, local_text, slash, slashed}
@@ -44,6 +44,18 @@ names_of login (first ∷ names) =
     else (if not (list_all is_component (drop 1 names)) then Err BadComponent
     else (if not (bytes_eq first login) then Err OtherLogin
     else Ok names))
+
+-- the same of names that are not too long, behind a first piece that is the login or isn't
+abbrev pub judged_names : Bool → List (List ℕ) → Result (List (List ℕ)) PathError
+judged_names is_own names =
+    if not (list_all is_component (drop 1 names)) then Err BadComponent
+    else (if not is_own then Err OtherLogin
+    else Ok names)
+
+-- an error that says want of memory, or that names are too long, where they are
+abbrev pub IsTooLong : List (List ℕ) → PathError → Type 0
+IsTooLong names Memory = ⊤
+IsTooLong names e = (e ≡ TooLong) × (LONGEST_PATH < length (slashed names))
 
 -- what `names_of` gives is like this
 pub record AreNames (names : List (List ℕ)) : Type 0 where

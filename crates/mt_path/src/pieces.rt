@@ -1,37 +1,88 @@
-//! The pieces of names, between their slashes.
-ghost use Rattle.std.specs.Prelude.{◌≡◌, ◌==◌, map, position, bytes_eq, codes, if◌then◌else◌, IfOk};
-ghost use Rattle.std.specs.List.{before_first};
+//! The pieces of names, between their slashes. They are taken from the name as it stands, no more than decide
+//! what it names, and each takes memory only where the names so far leave it room.
+ghost use Rattle.std.specs.Prelude.{◌≡◌, ◌≤◌, ◌<◌, ◌==◌, [], length, map, position, take, bytes_eq, codes, if◌then◌else◌, nat_eq, IfOk, IfErr};
+ghost use Rattle.std.specs.List.{before_first, starts_with};
 ghost use Rattle.percent_encoding.specs.Percent.{percent_decode as decoded_bytes_of};
-ghost use Rattle.mt_path.specs.Names.{begins_as_text, pieces, question_mark, target_pieces, text_pieces, with_login};
+ghost use Rattle.mt_path.specs.AccountPath.{slashed};
+ghost use Rattle.mt_path.specs.Names.{IsTooLong, begins_as_text, pieces, question_mark};
 
+use crate::error::PathError;
+use crate::limits::{LONGEST_PATH, MOST_PIECES};
 use mt_base::Bytes;
 use percent_encoding::percent_decode;
 use std::alloc::{AllocError, Global};
 
-/// The pieces of a request target, decoded: none where it begins with no slash.
-#[tactic(auto, unfolding(crate::specs::Names::target_pieces))]
-pub fn target_pieces(alloc: Global, raw: &[u8]) -> Result<Vec<Bytes>, AllocError>
-    ensures { IfOk result (λ v. v.items ≡ target_pieces raw.now) }
+/// The first pieces of a request target, as they stand: none where it begins with no slash. No more are
+/// taken than [`MOST_PIECES`].
+pub fn target_pieces(alloc: Global, raw: &[u8]) -> Result<Vec<&[u8]>, AllocError>
+    ensures { IfOk result (λ v. map (λ x. x.now) v.items ≡ (if starts_with nat_eq raw.now (codes "/") then take MOST_PIECES (pieces (before_first (λ b. b == question_mark) raw.now)) else [])) }
 {
     if raw.starts_with(b"/") {
-        decoded_pieces(alloc, before_query(raw))
+        pieces(alloc, before_query(raw))
     } else {
         Ok(Vec::new(alloc))
     }
 }
 
-/// The pieces of a name in a text: none where it begins with neither a slash nor `~~/`. A first piece
-/// `~~` is given as the login.
-#[tactic(auto, unfolding(crate::specs::Names::text_pieces))]
-pub fn text_pieces(alloc: Global, login: &[u8], text: &[u8]) -> Result<Vec<Bytes>, AllocError>
-    ensures { IfOk result (λ v. v.items ≡ text_pieces login.now text.now) }
+/// The first pieces of a name in a text, as they stand: none where it begins with neither a slash nor
+/// `~~/`. No more are taken than [`MOST_PIECES`].
+pub fn text_pieces(alloc: Global, text: &[u8]) -> Result<Vec<&[u8]>, AllocError>
+    ensures { IfOk result (λ v. map (λ x. x.now) v.items ≡ (if begins_as_text text.now then take MOST_PIECES (pieces text.now) else [])) }
 {
     if begins_as_text(text) {
-        let pieces = pieces(alloc, text)?;
-        copied(alloc, login, &pieces)
+        pieces(alloc, text)
     } else {
         Ok(Vec::new(alloc))
     }
+}
+
+/// Pieces without their escapes. `TooLong` where they, each with its slash, are longer than a path.
+pub fn decoded_names(alloc: Global, pieces: &[&[u8]]) -> Result<Vec<Bytes>, PathError>
+    ensures items { IfOk result (λ v. v.items ≡ map decoded_bytes_of (map (λ x. x.now) pieces.now)) }
+    ensures short { IfOk result (λ v. length (slashed v.items) ≤ LONGEST_PATH) }
+    ensures long { IfErr result (IsTooLong (map decoded_bytes_of (map (λ x. x.now) pieces.now))) }
+{
+    let mut out = Vec::new(alloc);
+    let mut room = LONGEST_PATH;
+    for piece in pieces {
+        let len = decoded_len(piece);
+        if len >= room {
+            return Err(PathError::TooLong);
+        }
+        room -= len + 1;
+        out.push(decoded(alloc, piece, len)?)?;
+    }
+    Ok(out)
+}
+
+/// Copies of pieces. `TooLong` where they, each with its slash, are longer than a path.
+pub fn copied_names(alloc: Global, pieces: &[&[u8]]) -> Result<Vec<Bytes>, PathError>
+    ensures items { IfOk result (λ v. v.items ≡ map (λ x. x.now) pieces.now) }
+    ensures short { IfOk result (λ v. length (slashed v.items) ≤ LONGEST_PATH) }
+    ensures long { IfErr result (IsTooLong (map (λ x. x.now) pieces.now)) }
+{
+    let mut out = Vec::new(alloc);
+    let mut room = LONGEST_PATH;
+    for piece in pieces {
+        if piece.len() >= room {
+            return Err(PathError::TooLong);
+        }
+        room -= piece.len() + 1;
+        out.push(Bytes::from_slice(alloc, piece)?)?;
+    }
+    Ok(out)
+}
+
+/// Whether a piece without its escapes is this name. It takes no more memory than the name.
+pub fn decodes_to(alloc: Global, piece: &[u8], name: &[u8]) -> Result<bool, AllocError>
+    ensures { IfOk result (λ is. is ≡ bytes_eq (decoded_bytes_of piece.now) name.now) }
+{
+    let len = decoded_len(piece);
+    if len != name.len() {
+        return Ok(false);
+    }
+    let bytes = decoded(alloc, piece, len)?;
+    Ok(bytes.as_slice() == name)
 }
 
 // Whether a text begins as a name does.
@@ -41,49 +92,13 @@ fn begins_as_text(text: &[u8]) -> bool
     text.starts_with(b"/") || text.starts_with(b"~~/")
 }
 
-// The pieces of a text, decoded.
-fn decoded_pieces(alloc: Global, text: &[u8]) -> Result<Vec<Bytes>, AllocError>
-    ensures { IfOk result (λ v. v.items ≡ map decoded_bytes_of (pieces text.now)) }
-{
-    let mut out = Vec::new(alloc);
-    let pieces = pieces(alloc, text)?;
-    for piece in &pieces {
-        out.push(decoded(alloc, piece)?)?;
-    }
-    Ok(out)
-}
-
-// Copies of pieces, with the login where the first is `~~`.
-fn copied(alloc: Global, login: &[u8], pieces: &[&[u8]]) -> Result<Vec<Bytes>, AllocError>
-    ensures { IfOk result (λ v. v.items ≡ with_login login.now (map (λ x. x.now) pieces.now)) }
-{
-    let mut out = Vec::new(alloc);
-    if let [first, rest @ ..] = pieces {
-        out.push(Bytes::from_slice(alloc, login_or(login, first))?)?;
-        for piece in rest {
-            out.push(Bytes::from_slice(alloc, piece)?)?;
-        }
-    }
-    Ok(out)
-}
-
-// The login for `~~`, and else the piece.
-fn login_or<'a>(login: &'a [u8], piece: &'a [u8]) -> &'a [u8]
-    ensures { result.now ≡ (if bytes_eq piece.now (codes "~~") then login.now else piece.now) }
-{
-    if piece == b"~~".as_slice() {
-        login
-    } else {
-        piece
-    }
-}
-
-// The pieces between slashes, without the empty ones.
+// The first pieces between slashes, without the empty ones.
 fn pieces<'a>(alloc: Global, text: &'a [u8]) -> Result<Vec<&'a [u8]>, AllocError>
-    ensures { IfOk result (λ v. map (λ x. x.now) v.items ≡ pieces text.now) }
+    ensures { IfOk result (λ v. map (λ x. x.now) v.items ≡ take MOST_PIECES (pieces text.now)) }
 {
     text.split(|b| *b == b'/')
         .filter(|piece| !piece.is_empty())
+        .take(MOST_PIECES)
         .collect(alloc)
 }
 
@@ -104,11 +119,18 @@ fn query_at(raw: &[u8]) -> Option<usize>
     raw.iter().position(|b| *b == b'?')
 }
 
-// A piece without its escapes.
-fn decoded(alloc: Global, piece: &[u8]) -> Result<Bytes, AllocError>
+// The number of bytes of a piece without its escapes.
+fn decoded_len(piece: &[u8]) -> usize
+    ensures { result ≡ length (decoded_bytes_of piece.now) }
+{
+    percent_decode(piece).count()
+}
+
+// A piece without its escapes, of which the length is known.
+fn decoded(alloc: Global, piece: &[u8], len: usize) -> Result<Bytes, AllocError>
     ensures { IfOk result (λ v. v ≡ decoded_bytes_of piece.now) }
 {
-    let mut out = Vec::new(alloc);
+    let mut out = Vec::with_capacity(alloc, len)?;
     percent_decode(piece).append_to(&mut out)?;
     Ok(Bytes::from_vec(out))
 }
