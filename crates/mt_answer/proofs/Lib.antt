@@ -1,0 +1,7 @@
+pub mod Order
+pub mod RefusalsRead
+pub mod RepliesRead
+pub mod AnswersRead
+pub mod Allowed
+pub mod Listable
+pub mod Pages

@@ -1,0 +1,31 @@
+//! Laws: answers over references are those over the bytes that they stand for, and what isn't refused may be done.
+ghost use Rattle.mt_answer.specs.Laws.{AnswersAreRead, BodyWithoutRoom, DoneIsAllowed, LawfulIsListable, RefusalsAreRead, RefusedIsRead, StaysRefused, StoringIsRead};
+
+/// Over a state of references a request is answered as over the bytes that are read for them: the same reply, the same command and
+/// the same growth, by their bodies' bytes.
+pub fn answers_are_read()
+    ensures answer { AnswersAreRead }
+    ensures refused { RefusedIsRead }
+    ensures full { BodyWithoutRoom }
+{}
+
+/// A request is refused for the same cause over references and over bytes, and its body is stored alike.
+pub fn refusals_are_read()
+    ensures refusal { RefusalsAreRead }
+    ensures storing { StoringIsRead }
+{}
+
+/// What is refused before the digest of the body is known is refused with any digest.
+pub fn stays_refused()
+    ensures { StaysRefused }
+{}
+
+/// The account takes the command of a request that isn't refused.
+pub fn done_is_allowed()
+    ensures { DoneIsAllowed }
+{}
+
+/// The rows of a lawful state within its limits can be told in replies and on pages.
+pub fn lawful_is_listable()
+    ensures { LawfulIsListable }
+{}
