@@ -55,9 +55,9 @@ IsOutside (doing.Remove p) = is_jobs p.area ≡ false
 IsOutside (doing.Look p page range) = Unit {0}
 
 same_area : (a : Area) → target.is_jobs a ≡ false → is_jobs a ≡ false
-same_area area.Stor no = refl
-same_area area.Public no = refl
-same_area area.Jobs no = no
+same_area area.Stor out = refl
+same_area area.Public out = refl
+same_area area.Jobs out = out
 
 linked : (p : AccountPath) (source : Result AccountPath ErrorCode) → is_jobs p.area ≡ false → IsOutside (link_to p source)
 linked p (Ok source) out = out
@@ -94,7 +94,7 @@ by_path : (p : Result AccountPath ErrorCode) (login : List ℕ) (head : Head)
     (wish_of head.fields) (asked_at p login head)).doing
 by_path (Ok p) login head =
     at_area (target.is_jobs p.area) (method_refusal head.method) (wish_of head.fields) (late_of login head) (doing_of p login head)
-    (λ no. by_method (bytes_eq head.method (codes "PUT")) (bytes_eq head.method (codes "DELETE")) p login head (same_area p.area no))
+    (λ apart. by_method (bytes_eq head.method (codes "PUT")) (bytes_eq head.method (codes "DELETE")) p login head (same_area p.area apart))
 by_path (Err code) login head = tt
 
 outside : (login : List ℕ) (head : Head) → IsOutside (request_of login head).doing
@@ -111,9 +111,9 @@ outside_is : (p : AccountPath) (r : Option Refusal) → is_jobs p.area ≡ false
 outside_is p r out none = ap (λ b. first_refusal (refuse_if b RootDirectory) r) out ∙ none
 
 made : (test : Bool) (r : Option Refusal) → (if test then None else option_map (λ x. plain (code_of x)) r) ≡ None → test ≡ false → r ≡ None
-made true r none no = cc
-made false None none no = refl
-made false (Some refusal) none no = cc
+made true r none apart = cc
+made false None none apart = refl
+made false (Some refusal) none apart = cc
 
 module _ (s : State Body) (c : Conditions) (body : Body) (moment : ℕ) (command : Command Body) where
   is_made : (test : Bool) (p : AccountPath) → is_directory (at s.rows p) ≡ test → is_jobs p.area ≡ false → directory_refusal s.rows p ≡ None

@@ -31,14 +31,14 @@ use Rattle.mt_types.specs.declared.command.Command.{Command}
 use Rattle.mt_types.specs.declared.command.Command.TheVariants.{Put}
 use Rattle.mt_types.specs.declared.limits.TheConstants.{MOST_COMMANDS}
 use Rattle.mt_types.specs.declared.reply.Reply.{Reply}
-use Rattle.mt_answer.specs.Answer.{Answer, accept, add_if, answer_by, answer_in, answer_of, answer_to, answer_with, command_of, growth, has_room, is_put_object, make_command, refuse, reply_to, stamp_of, stored_len, stores_body}
-use Rattle.mt_answer.specs.Judging.{len_of, md5_of, refusal_of}
+use Rattle.mt_answer.specs.Answer.{Answer, accept, add_if, answer_by, answer_in, answer_of, answer_to, answer_with, command_of, growth, has_room, make_command, refuse, reply_to, stamp_of}
+use Rattle.mt_answer.specs.Judging.{is_put_object, len_of, md5_of, refusal_of, stored_len, stores_body}
 use Rattle.mt_answer.specs.Laws.{IsDigested}
 use Rattle.mt_answer.proofs.Order.{not_refused}
 use Rattle.mt_answer.proofs.RefusalsRead.{refusal-with, size_with, stored_len-with, storing-with}
 use Rattle.mt_answer.proofs.RepliesRead.{reply-with}
 
-Bytes : Type 0
+abbrev Bytes : Type 0
 Bytes = List ℕ
 
 put_true : (b : Bool) (o : Option Refused) → b ≡ true → o ≡ None → b && not (is_some o) ≡ true
@@ -99,7 +99,7 @@ module _ (read : Reading) where
 
     module _ (stamp : Stamp) (request : Request) (body : Body) (bytes : Bytes) (sum : List ℕ) where
       -- the body that is stored is the one
-      Same : Type 0
+      abbrev Same : Type 0
       Same = stores_body (size_with read length) request s.rows c ≡ true → read body ≡ bytes
 
       len-with : Same → stored_len length request (rows_with read s.rows) c (length bytes) ≡ stored_len (size_with read length) request s.rows c (length (read body))

@@ -1,5 +1,5 @@
 -- What replies ask of the rows: in a lawful state within its limits each row can be told.
-use Rattle.std.proofs.Common.{◌≡◌, ℕ, ◌+◌, ◌*◌, ◌<◌, ◌≤◌, ◌^◌, Bool, true, false, cond, IsTrue, List, [], ◌∷◌, Option, Some, None, refl, sym, ap, subst, ◌∙◌, arith}
+use Rattle.std.proofs.Common.{◌≡◌, ℕ, ◌+◌, ◌*◌, ◌<◌, ◌≤◌, ◌^◌, Bool, true, false, cond, IsTrue, List, [], ◌∷◌, Option, Some, None, Result, Ok, Err, refl, sym, ap, subst, ◌∙◌, arith}
 use Rattle.std.specs.Prelude.{IfSome}
 use Rattle.std.specs.List.{AllByRecursion}
 use Rattle.std.specs.List.Sorted.{IsStrictlySortedBy}
@@ -9,6 +9,10 @@ use Rattle.std.specs.declared.cmp.Ordering.{Ordering}
 use Rattle.std.specs.declared.cmp.Ordering.TheVariants.{Less}
 use Rattle.std.proofs.lemmas.Bool.{leb-true}
 use Rattle.std.proofs.lemmas.Option.{same_Some}
+use Rattle.mt_cond.specs.Conditions.{judged}
+use Rattle.mt_cond.specs.declared.conditions.Conditions.{Conditions}
+use Rattle.mt_cond.specs.declared.conditions.Judged.{Judged}
+use Rattle.mt_cond.specs.declared.conditions.Judged.TheVariants as says
 use Rattle.mt_base.specs.declared.limits.TheConstants.{LAST_MOMENT}
 use Rattle.mt_live.specs.LiveTexts.{IsEntryListable}
 use Rattle.mt_model.specs.Keeping.{IsEntry, KeepsLimits}
@@ -18,6 +22,10 @@ use Rattle.mt_model.specs.State.{State}
 use Rattle.mt_model.proofs.RowLaws.{is_path-exact, is_path-self}
 use Rattle.mt_path.specs.AccountPath.{AccountPath}
 use Rattle.mt_path.specs.PathOrder.{path_cmp}
+use Rattle.mt_store.specs.Decisions.{found_by, found_in, read_decision}
+use Rattle.mt_store.specs.declared.error.StoreError.{StoreError}
+use Rattle.mt_store.specs.declared.reads.Found.{Found}
+use Rattle.mt_store.specs.declared.reads.Found.TheVariants as found
 use Rattle.mt_types.specs.declared.body.Body.{Body}
 use Rattle.mt_types.specs.declared.limits.TheConstants.{MOST_COMMANDS}
 use Rattle.mt_types.specs.declared.object.Entry.{Entry}
@@ -87,3 +95,26 @@ entry_there rows p e all is = subst (λ (x : Option (Entry Body)). IfSome x IsEn
 
 pub number_there : (rows : Rows Body) (p : AccountPath) (o : Object Body) → AreListable rows → Some (entry.Object o) ≡ at rows p → o.number < 2 ^ 62
 number_there rows p o all is = (entry_there rows p (entry.Object o) all is).1
+
+-- ---- of what a reader finds
+
+-- the object can be told
+abbrev pub IsTellable : Result (Found (Object Body)) StoreError → Type 0
+IsTellable (Ok found.Directory) = Unit {0}
+IsTellable (Ok (found.Object o)) = IsEntryListable (entry.Object o)
+IsTellable (Ok (found.NotModified o)) = IsEntryListable (entry.Object o)
+IsTellable (Err e) = Unit {0}
+
+by_judged : (j : Judged) (o : Object Body) → IsEntryListable (entry.Object o) → IsTellable (found_by j o)
+by_judged says.Go o is = is
+by_judged says.NotModified o is = is
+by_judged says.Failed o is = tt
+
+by_entry : (c : Conditions) (e : Option (Entry Body)) → IfSome e IsEntryListable → IsTellable (found_in c e)
+by_entry c None is = tt
+by_entry c (Some (entry.Directory mtime)) is = tt
+by_entry c (Some (entry.Object o)) is = by_judged (judged c (Some o) true) o is
+
+pub found_there : (rows : Rows Body) (p : AccountPath) (c : Conditions) (r : Result (Found (Object Body)) StoreError) → AreListable rows → r ≡ read_decision rows p c → IsTellable r
+unfolding read_decision
+found_there rows p c r all is = subst IsTellable (sym is) (by_entry c (at rows p) (at_path (is_path p) rows all))

@@ -23,8 +23,7 @@ use Rattle.mt_store.specs.declared.reads.Found.TheVariants as found
 use Rattle.mt_store.proofs.DecisionsRead.{delete-with, link-with, put-with, read-with}
 use Rattle.mt_types.specs.Values.{object_with}
 use Rattle.mt_types.specs.declared.object.Object.{Object}
-use Rattle.mt_answer.specs.Answer.{is_put_object, stored_len, stores_body}
-use Rattle.mt_answer.specs.Judging.{account_refusal, code_of, directory_refusal, limit_refusal, look_refusal, read_refusal, refusal_of, refused_by}
+use Rattle.mt_answer.specs.Judging.{account_refusal, code_of, directory_refusal, is_put_object, limit_refusal, look_refusal, read_refusal, refusal_of, refused_by, stored_len, stores_body}
 
 module _ {A B : Type 0} (f : A → B) (size : B → ℕ) where
   -- the size of what a body goes to

@@ -101,13 +101,13 @@ module _ {A B : Type 0} (f : A → B) (size : B → ℕ) (digest : B → List �
         ∙ by_entry page range c (at rows p) (of_found IsOf (is_path p) rows all)
 
     by_source : (e : Option (Entry A)) → IfSome e (OfEntry IsOf)
-        → link_reply size digest stamp (option_map (object_with f) (object_in e)) ≡ reply_with f (link_reply (size_with f size) md5_at stamp (object_in e))
+        → link_reply digest stamp (option_map (object_with f) (object_in e)) ≡ reply_with f (link_reply md5_at stamp (object_in e))
     by_source None is = refl
     by_source (Some (entry.Directory mtime)) is = refl
     by_source (Some (entry.Object o)) is = ap (λ d. reply_with f (stored_reply stamp o.number stamp.moment d)) (sym is)
 
-    link_reply-with : link_reply size digest stamp (object_at (rows_with f rows) p) ≡ reply_with f (link_reply (size_with f size) md5_at stamp (object_at rows p))
-    link_reply-with = ap (link_reply size digest stamp) (object_at-with f rows p) ∙ by_source (at rows p) (of_found IsOf (is_path p) rows all)
+    link_reply-with : link_reply digest stamp (object_at (rows_with f rows) p) ≡ reply_with f (link_reply md5_at stamp (object_at rows p))
+    link_reply-with = ap (link_reply digest stamp) (object_at-with f rows p) ∙ by_source (at rows p) (of_found IsOf (is_path p) rows all)
 
   -- what is done is answered alike
   pub reply-with : (stamp : Stamp) (count : ℕ) (rows : Rows A) (c : Conditions) (d : Doing) (sum : List ℕ) → AllByRecursion (λ r. OfEntry IsOf r.1) rows

@@ -1,6 +1,6 @@
 -- What each request is answered: a reply and at most one command, by the login, the limit and the length of the log, the account,
 -- the request and its moment. Over references to bodies or over their bytes. Read from `answer_of` at the end upwards.
-use Rattle.std.specs.Prelude.{ℕ, ◌+◌, ◌*◌, Bool, true, false, ◌&&◌, not, nat_le, nat_lt, List, [], ◌∷◌, length, map, Option, Some, None, is_some, Result, Ok, Err, if◌then◌else◌}
+use Rattle.std.specs.Prelude.{ℕ, ◌+◌, ◌*◌, Bool, true, false, ◌&&◌, nat_le, nat_lt, List, [], ◌∷◌, length, map, Option, Some, None, Result, Ok, Err}
 use Rattle.md5.specs.Md5.{md5}
 use Rattle.mt_body.specs.Stored.{pieces_size, pieces_that_fit}
 use Rattle.mt_codec.specs.Pieces.{spelled_size}
@@ -37,7 +37,7 @@ use Rattle.mt_types.specs.declared.command.Command.TheVariants.{Put, MakeDirecto
 use Rattle.mt_types.specs.declared.limits.TheConstants.{MOST_COMMANDS, NUMBERS_A_COMMAND}
 use Rattle.mt_types.specs.declared.object.Object.{Object}
 use Rattle.mt_types.specs.declared.reply.Reply.{Reply}
-use Rattle.mt_answer.specs.Judging.{refusal_of}
+use Rattle.mt_answer.specs.Judging.{refusal_of, stored_len}
 
 -- a reply, the commands that were added, one at most, and by how much the log grew
 pub record Answer (B : Type 0) : Type 0 where
@@ -48,14 +48,6 @@ pub record Answer (B : Type 0) : Type 0 where
 -- what every reply to a head says, at a moment, behind so many commands
 abbrev pub stamp_of : Head → ℕ → ℕ → Stamp
 stamp_of head position moment = record { position = position; moment = moment; closes = closes head.minor head.fields }
-
-abbrev pub is_put_object : Doing → Bool
-is_put_object (doing.PutObject p content_type durability metadata) = true
-is_put_object doing.Nothing = false
-is_put_object (doing.PutDirectory p) = false
-is_put_object (doing.PutLink p source) = false
-is_put_object (doing.Remove p) = false
-is_put_object (doing.Look p page range) = false
 
 -- ---- what is done
 
@@ -84,6 +76,18 @@ module _ {B : Type 0} where
 
 -- ---- the replies
 
+module _ {B : Type 0} (size : B → ℕ) where
+  -- a page of a directory, which was refused before where its limit is none
+  abbrev pub listing_reply : Stamp → Rows B → AccountPath → Option Page → Reply B
+  listing_reply stamp rows p (Some page) = page_reply stamp (result_set_size rows p) (page_text size (map row_of (listing rows p page.marker page.limit)))
+  listing_reply stamp rows p None = done_reply stamp
+
+module _ {B : Type 0} (digest : B → List ℕ) where
+  -- a link is the object at its source, but for its moment; where there is none it was refused before
+  abbrev pub link_reply : Stamp → Option (Object B) → Reply B
+  link_reply stamp (Some o) = stored_reply stamp o.number stamp.moment (digest o.body)
+  link_reply stamp None = done_reply stamp
+
 module _ {B : Type 0} (size : B → ℕ) (digest : B → List ℕ) where
   -- an object, or the part of it that is asked for; a range that can't be met was refused before
   abbrev pub ranged_reply : Stamp → Object B → Ranged → Reply B
@@ -95,14 +99,9 @@ module _ {B : Type 0} (size : B → ℕ) (digest : B → List ℕ) where
   range_reply stamp o None = ranged_reply stamp o part.Whole
   range_reply stamp o (Some range) = ranged_reply stamp o (ranged range (size o.body))
 
-  -- a page of a directory, which was refused before where its limit is none
-  abbrev pub listing_reply : Stamp → Rows B → AccountPath → Option Page → Reply B
-  listing_reply stamp rows p (Some page) = page_reply stamp (result_set_size rows p) (page_text size (map row_of (listing rows p page.marker page.limit)))
-  listing_reply stamp rows p None = done_reply stamp
-
   -- what stands there, as it is asked for; what can't be read was refused before
   abbrev pub found_reply : Stamp → Rows B → AccountPath → Option Page → Option Range → Result (Found (Object B)) StoreError → Reply B
-  found_reply stamp rows p page range (Ok found.Directory) = listing_reply stamp rows p page
+  found_reply stamp rows p page range (Ok found.Directory) = listing_reply size stamp rows p page
   found_reply stamp rows p page range (Ok (found.Object o)) = range_reply stamp o range
   found_reply stamp rows p page range (Ok (found.NotModified o)) = unchanged_reply stamp o.number o.mtime
   found_reply stamp rows p page range (Err e) = done_reply stamp
@@ -111,17 +110,12 @@ module _ {B : Type 0} (size : B → ℕ) (digest : B → List ℕ) where
   abbrev pub look_reply : Stamp → Rows B → Conditions → AccountPath → Option Page → Option Range → Reply B
   look_reply stamp rows c p page range = found_reply stamp rows p page range (read_decision rows p c)
 
-  -- a link is the object at its source, but for its moment; where there is none it was refused before
-  abbrev pub link_reply : Stamp → Option (Object B) → Reply B
-  link_reply stamp (Some o) = stored_reply stamp o.number stamp.moment (digest o.body)
-  link_reply stamp None = done_reply stamp
-
   -- to what was done behind so many commands, by the digest of the body; a new object has the first number of its command
   abbrev pub reply_to : Stamp → ℕ → Rows B → Conditions → Doing → List ℕ → Reply B
   reply_to stamp count rows c doing.Nothing sum = done_reply stamp
   reply_to stamp count rows c (doing.PutObject p content_type durability metadata) sum = stored_reply stamp (count * NUMBERS_A_COMMAND) stamp.moment sum
   reply_to stamp count rows c (doing.PutDirectory p) sum = done_reply stamp
-  reply_to stamp count rows c (doing.PutLink p source) sum = link_reply stamp (object_at rows source)
+  reply_to stamp count rows c (doing.PutLink p source) sum = link_reply digest stamp (object_at rows source)
   reply_to stamp count rows c (doing.Remove p) sum = done_reply stamp
   reply_to stamp count rows c (doing.Look p page range) sum = look_reply stamp rows c p page range
 
@@ -138,14 +132,6 @@ module _ {B : Type 0} where
   add_if false command len reply full = full
 
 module _ {B : Type 0} (size : B → ℕ) (digest : B → List ℕ) where
-  -- only its digest or a full log could still refuse the put of an object: its body is stored
-  abbrev pub stores_body : Request → Rows B → Conditions → Bool
-  stores_body request rows c = is_put_object request.doing && not (is_some (refusal_of size request rows c None))
-
-  -- how many bytes of a body of so many are stored
-  abbrev pub stored_len : Request → Rows B → Conditions → ℕ → ℕ
-  stored_len request rows c len = if stores_body request rows c then len else 0
-
   -- what isn't refused is done; a command that has no room is refused
   abbrev pub accept : ℕ → Stamp → State B → Conditions → ℕ → Doing → List ℕ → ℕ → Option (Command B) → Answer B
   accept limit stamp s c used d sum len None = record { reply = reply_to size digest stamp s.count s.rows c d sum; added = []; grew = 0 }
@@ -156,9 +142,9 @@ module _ {B : Type 0} (size : B → ℕ) (digest : B → List ℕ) where
 
   -- refused, or done
   abbrev pub answer_by : ℕ → Stamp → State B → Conditions → ℕ → Request → B → List ℕ → Option Refused → Answer B
-  answer_by limit stamp s c used request body sum (Some r) = refuse stamp r limit used (stored_len request s.rows c (size body))
+  answer_by limit stamp s c used request body sum (Some r) = refuse stamp r limit used (stored_len size request s.rows c (size body))
   answer_by limit stamp s c used request body sum None =
-      accept limit stamp s c used request.doing sum (stored_len request s.rows c (size body)) (command_of s.rows request.doing body stamp.moment)
+      accept limit stamp s c used request.doing sum (stored_len size request s.rows c (size body)) (command_of s.rows request.doing body stamp.moment)
 
   -- what a request is answered under conditions, whose body has this digest
   abbrev pub answer_to : ℕ → Stamp → State B → Conditions → ℕ → Request → B → List ℕ → Answer B

@@ -1,6 +1,6 @@
 -- Why a request is refused: what its head says before its body is looked at, the digest of its body, what its head says then, and
 -- last the account.
-use Rattle.std.specs.Prelude.{ℕ, Bool, List, [], ◌∷◌, Option, Some, None, is_some, option_map, Result, Ok, Err, if◌then◌else◌}
+use Rattle.std.specs.Prelude.{ℕ, Bool, true, false, not, ◌&&◌, List, [], ◌∷◌, Option, Some, None, is_some, option_map, Result, Ok, Err, if◌then◌else◌}
 use Rattle.mt_cond.specs.Range.{ranged}
 use Rattle.mt_cond.specs.declared.conditions.Conditions.{Conditions}
 use Rattle.mt_cond.specs.declared.range.Range.{Range}
@@ -112,3 +112,21 @@ module _ {B : Type 0} (size : B → ℕ) where
   unfoldable pub refusal_of : Request → Rows B → Conditions → Option (List ℕ) → Option Refused
   refusal_of request rows c digest =
       first_of (request.early ∷ option_map plain (digest_refusal request.wish digest) ∷ option_map plain request.late ∷ account_refusal rows c request.doing ∷ [])
+
+-- the request stores its body
+abbrev pub is_put_object : Doing → Bool
+is_put_object (doing.PutObject p content_type durability metadata) = true
+is_put_object doing.Nothing = false
+is_put_object (doing.PutDirectory p) = false
+is_put_object (doing.PutLink p source) = false
+is_put_object (doing.Remove p) = false
+is_put_object (doing.Look p page range) = false
+
+module _ {B : Type 0} (size : B → ℕ) where
+  -- only its digest or a full log could still refuse the put of an object: its body is stored
+  abbrev pub stores_body : Request → Rows B → Conditions → Bool
+  stores_body request rows c = is_put_object request.doing && not (is_some (refusal_of size request rows c None))
+
+  -- how many bytes of a body of so many are stored
+  abbrev pub stored_len : Request → Rows B → Conditions → ℕ → ℕ
+  stored_len request rows c len = if stores_body request rows c then len else 0

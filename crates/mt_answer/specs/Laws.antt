@@ -24,8 +24,8 @@ use Rattle.mt_types.specs.Values.{command_with, reply_with}
 use Rattle.mt_types.specs.declared.body.Body.{Body}
 use Rattle.mt_types.specs.declared.command.Command.{Command}
 use Rattle.mt_types.specs.declared.limits.TheConstants.{MOST_COMMANDS}
-use Rattle.mt_answer.specs.Answer.{answer_in, answer_of, answer_with, command_of, growth, is_put_object, refuse, reply_to, stamp_of, stored_len, stores_body}
-use Rattle.mt_answer.specs.Judging.{len_of, md5_of, refusal_of}
+use Rattle.mt_answer.specs.Answer.{answer_in, answer_of, answer_with, command_of, growth, refuse, reply_to, stamp_of}
+use Rattle.mt_answer.specs.Judging.{is_put_object, len_of, md5_of, refusal_of, stored_len, stores_body}
 
 -- the digest of each body of a state is that of the bytes that are read
 abbrev pub IsDigested : Reading → State Body → Type 0

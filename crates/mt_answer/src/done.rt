@@ -59,7 +59,7 @@ fn link_reply(
 ) -> Result<Reply<Body>, AllocError>
     requires moment { stamp.moment ≤ LAST_MOMENT }
     requires rows { AreListable tree.now }
-    ensures { IfOk result (λ reply. reply ≡ words.link_reply len_of md5_of stamp (object_at tree.now source.now)) }
+    ensures { IfOk result (λ reply. reply ≡ words.link_reply md5_of stamp (object_at tree.now source.now)) }
 {
     match tree.get(source) {
         Some(Entry::Object(object)) => stored_reply(

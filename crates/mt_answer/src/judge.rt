@@ -1,8 +1,7 @@
 //! Why a request is refused.
 ghost use Rattle.std.specs.Prelude.{◌≡◌, None};
 ghost use Rattle.std.specs.Option.{option_copied};
-ghost use Rattle.mt_answer.specs.Answer.{is_put_object, stores_body};
-ghost use Rattle.mt_answer.specs.Judging.{account_refusal, code_of, directory_refusal, len_of, limit_refusal, look_refusal, range_refusal, read_refusal, refusal_of, refused_as, refused_by};
+ghost use Rattle.mt_answer.specs.Judging.{account_refusal, code_of, directory_refusal, is_put_object, len_of, limit_refusal, look_refusal, range_refusal, read_refusal, refusal_of, refused_as, refused_by, stores_body};
 ghost use Rattle.mt_store.specs.Decisions.{read_now};
 
 use mt_cond::{Conditions, Range, Ranged, range_of};

@@ -1,5 +1,5 @@
 //! Laws: answers over references are those over the bytes that they stand for, and what isn't refused may be done.
-ghost use Rattle.mt_answer.specs.Laws.{AnswersAreRead, BodyWithoutRoom, DoneIsAllowed, LawfulIsListable, RefusalsAreRead, RefusedIsRead, StaysRefused, StoringIsRead};
+ghost use Rattle.mt_answer.specs.Laws.{AddedIsRead, AnswersAreRead, BodyWithoutRoom, DoneIsAllowed, FullIsRead, LawfulIsListable, RefusalsAreRead, RefusedIsRead, ShownIsRead, StaysRefused, StoringIsRead};
 
 /// Over a state of references a request is answered as over the bytes that are read for them: the same reply, the same command and
 /// the same growth, by their bodies' bytes.
@@ -7,6 +7,13 @@ pub fn answers_are_read()
     ensures answer { AnswersAreRead }
     ensures refused { RefusedIsRead }
     ensures full { BodyWithoutRoom }
+{}
+
+/// The same by what was done: nothing is added, a command is added, or it has no room.
+pub fn done_is_read()
+    ensures shown { ShownIsRead }
+    ensures added { AddedIsRead }
+    ensures full { FullIsRead }
 {}
 
 /// A request is refused for the same cause over references and over bytes, and its body is stored alike.

@@ -1,14 +1,15 @@
 //! The text of a page of a directory.
-ghost use Rattle.std.specs.Prelude.{◌≡◌, All, IfOk, map};
+ghost use Rattle.std.specs.Prelude.{◌≡◌, [], ◌∷◌, All, IfOk, map};
 ghost use Rattle.std.specs.List.{flat_map};
-ghost use Rattle.mt_live.specs.LiveTexts.{IsEntryListable, IsListable, page_text, row_line};
+ghost use Rattle.mt_live.specs.LiveTexts.{IsEntryListable, page_text};
 ghost use Rattle.mt_model.specs.Listing.{listing};
 ghost use Rattle.mt_model.specs.Rows.{row_of};
 ghost use Rattle.mt_path.specs.AccountPath.{IsComponent};
+ghost use Rattle.mt_path.specs.declared.area.Area.TheVariants.{Stor};
 ghost use Rattle.mt_tree.specs.Lent.{lent};
 ghost use Rattle.mt_answer.specs.Judging.{len_of};
 ghost use Rattle.mt_answer.specs.Laws.{AreListable};
-ghost use Rattle.mt_answer.specs.Lines.{line_of};
+ghost use Rattle.mt_answer.specs.Lines.{line_of, plain_entry};
 
 use mt_base::{Bytes, Duplicate, Sequence, Text};
 use mt_live::page_text;
