@@ -1,6 +1,6 @@
 -- The lines of a page, by what a page lends.
-use Rattle.std.proofs.Common.{◌≡◌, ℕ, Bool, true, false, cond, List, [], ◌∷◌, ◌++◌, map, take, zero, suc, refl, sym, ap, subst, ◌∙◌}
-use Rattle.std.specs.List.{AllByRecursion, filter, flat_map}
+use Rattle.std.proofs.Common.{◌≡◌, ℕ, Bool, true, false, cond, List, [], ◌∷◌, ◌++◌, map, take, length, zero, suc, ◌<◌, arith, refl, sym, ap, subst, ◌∙◌}
+use Rattle.std.specs.List.{All, AllByRecursion, filter, flat_map}
 use Rattle.mt_live.specs.LiveTexts.{IsEntryListable, page_text, row_line}
 use Rattle.mt_model.specs.Listing.{is_from, listing, name_of}
 use Rattle.mt_model.specs.Rows.{Rows, children, is_child, row_of}
@@ -56,7 +56,20 @@ from_lent : (page : List (Listed Body)) → AllByRecursion (λ x. IsEntryListabl
 from_lent [] all = tt
 from_lent (x ∷ page) all = (all.0, from_lent page all.1)
 
-pub page_listable : (rows : Rows Body) (d : AccountPath) (marker : List ℕ) (limit : ℕ) (page : List (Listed Body)) → AreListable rows
+page_listable : (rows : Rows Body) (d : AccountPath) (marker : List ℕ) (limit : ℕ) (page : List (Listed Body)) → AreListable rows
     → map lent page ≡ map listed_row (listing rows d marker limit) → AllByRecursion (λ x. IsEntryListable x.entry.now) page
 page_listable rows d marker limit page all same =
     from_lent page (subst (λ (xs : List (List ℕ × Entry Body)). AllByRecursion (λ x. IsEntryListable x.1) xs) (sym same) (listed_listable (listing rows d marker limit) (listing_listable rows d marker limit all)))
+
+not_below : (k : ℕ) → k < 0 → ⊥
+not_below k below = omega (arith, below)
+
+-- by place
+by_place : {X : Type 0} (P : X → Type 0) (xs : List X) → AllByRecursion P xs → All P xs
+by_place P [] all k d below = absurd (not_below k below)
+by_place P (x ∷ xs) all zero d below = all.0
+by_place P (x ∷ xs) all (suc k) d below = by_place P xs all.1 k d (omega (arith, below))
+
+pub page_all : (rows : Rows Body) (d : AccountPath) (marker : List ℕ) (limit : ℕ) (page : List (Listed Body)) → AreListable rows
+    → map lent page ≡ map listed_row (listing rows d marker limit) → All (λ x. IsEntryListable x.entry.now) page
+page_all rows d marker limit page all same = by_place (λ x. IsEntryListable x.entry.now) page (page_listable rows d marker limit page all same)
