@@ -30,12 +30,10 @@ use Rattle.mt_request.specs.declared.kind.Kind.TheVariants as kind
 use Rattle.mt_request.specs.declared.request.Doing.{Doing}
 use Rattle.mt_request.specs.declared.request.Doing.TheVariants as doing
 use Rattle.mt_request.specs.declared.request.Request.{Request}
-use Rattle.mt_store.specs.Decisions.{decided, delete_decision, link_decision, put_decision, verdict, verdict_on}
-use Rattle.mt_store.specs.declared.error.StoreError.{StoreError}
+use Rattle.mt_store.specs.Decisions.{decided, delete_decision, link_decision, put_decision, verdict_on}
 use Rattle.mt_types.specs.Fields.{first_value}
 use Rattle.mt_types.specs.declared.body.Body.{Body}
 use Rattle.mt_types.specs.declared.command.Command.{Command}
-use Rattle.mt_types.specs.declared.command.Command.TheVariants.{Put, MakeDirectory, Link, Delete}
 use Rattle.mt_types.specs.declared.object.Field.{Field}
 use Rattle.mt_types.specs.declared.refusal.Refusal.{Refusal}
 use Rattle.mt_types.specs.declared.refusal.Refusal.TheVariants.{RootDirectory}

@@ -1,11 +1,9 @@
 -- Answers over references are those over the bytes that are read.
-use Rattle.std.proofs.Common.{◌≡◌, ℕ, ◌+◌, ◌<◌, ◌≤◌, Bool, true, false, not, ◌&&◌, List, [], ◌∷◌, length, map, Option, Some, None, refl, sym, ap, subst, ◌∙◌, if◌then◌else◌, arith}
+use Rattle.std.proofs.Common.{◌≡◌, ℕ, ◌+◌, ◌<◌, Bool, true, false, not, ◌&&◌, List, [], ◌∷◌, length, Option, Some, None, refl, sym, ap, subst, ◌∙◌, if◌then◌else◌, arith}
 use Rattle.std.specs.Prelude.{is_some, nat_le, nat_lt, option_map}
-use Rattle.std.specs.List.{AllByRecursion}
 use Rattle.std.proofs.lemmas.Bool.{lt-leb}
 use Rattle.md5.specs.Md5.{md5}
 use Rattle.mt_body.specs.Stored.{pieces_size}
-use Rattle.mt_codec.specs.Pieces.{spelled_size}
 use Rattle.mt_codec.proofs.SizesRead.{read_size}
 use Rattle.mt_cond.specs.Conditions.{conditions_of}
 use Rattle.mt_cond.specs.declared.conditions.Conditions.{Conditions}
@@ -13,7 +11,7 @@ use Rattle.mt_error.specs.Refusals.{plain}
 use Rattle.mt_error.specs.declared.code.ErrorCode.TheVariants as error
 use Rattle.mt_error.specs.declared.refused.Refused.{Refused}
 use Rattle.mt_http.specs.declared.message.Head.{Head}
-use Rattle.mt_model.specs.Bodies.{OfEntry, rows_with, state_with}
+use Rattle.mt_model.specs.Bodies.{rows_with, state_with}
 use Rattle.mt_model.specs.Laws.{KeepsSize, Reading}
 use Rattle.mt_model.specs.Rows.{Rows, at, is_directory}
 use Rattle.mt_model.specs.State.{State}

@@ -18,7 +18,7 @@ use Rattle.mt_types.specs.declared.body.Body.{Body}
 use Rattle.mt_types.specs.declared.command.Command.{Command}
 use Rattle.mt_types.specs.declared.limits.TheConstants.{MOST_COMMANDS}
 use Rattle.mt_answer.specs.Answer.{Answer, accept, add_if, answer_by, answer_in, answer_of, answer_with, command_of, growth, has_room, refuse, reply_to, stamp_of}
-use Rattle.mt_answer.specs.Judging.{is_put_object, len_of, md5_of, refusal_of, stored_len, stores_body}
+use Rattle.mt_answer.specs.Judging.{is_put_object, len_of, md5_of, refusal_of, stored_len}
 use Rattle.mt_answer.specs.Laws.{IsDigested, body_len}
 use Rattle.mt_answer.proofs.AnswersRead.{answer_read}
 use Rattle.mt_answer.proofs.Order.{not_refused}

@@ -6,3 +6,4 @@ pub mod Exits
 pub mod Allowed
 pub mod Listable
 pub mod Pages
+pub mod Told

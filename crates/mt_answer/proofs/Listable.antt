@@ -1,14 +1,12 @@
 -- What replies ask of the rows: in a lawful state within its limits each row can be told.
-use Rattle.std.proofs.Common.{◌≡◌, ℕ, ◌+◌, ◌*◌, ◌<◌, ◌≤◌, ◌^◌, Bool, true, false, cond, IsTrue, List, [], ◌∷◌, Option, Some, None, Result, Ok, Err, refl, sym, ap, subst, ◌∙◌, arith}
+use Rattle.std.proofs.Common.{◌≡◌, ℕ, ◌<◌, ◌≤◌, ◌^◌, Bool, true, false, cond, [], ◌∷◌, Option, Some, None, Result, Ok, Err, refl, sym, ap, subst, ◌∙◌, arith}
 use Rattle.std.specs.Prelude.{IfSome}
 use Rattle.std.specs.List.{AllByRecursion}
 use Rattle.std.specs.List.Sorted.{IsStrictlySortedBy}
 use Rattle.std.specs.Map.{keys_of, lookup}
 use Rattle.std.specs.Ordering.{is_eq}
-use Rattle.std.specs.declared.cmp.Ordering.{Ordering}
 use Rattle.std.specs.declared.cmp.Ordering.TheVariants.{Less}
 use Rattle.std.proofs.lemmas.Bool.{leb-true}
-use Rattle.std.proofs.lemmas.Option.{same_Some}
 use Rattle.mt_cond.specs.Conditions.{judged}
 use Rattle.mt_cond.specs.declared.conditions.Conditions.{Conditions}
 use Rattle.mt_cond.specs.declared.conditions.Judged.{Judged}
@@ -61,8 +59,9 @@ numbers : (count : ℕ) (rows : Rows Body) → IsStrictlySortedBy path_cmp (keys
 unfolding IsStrictlySortedBy
 numbers count [] sorted each = tt
 numbers count (r ∷ rows) sorted each = (
-    number_here count r.1 (λ o is. each r.0 o (ap (λ b. object_in (cond b (Some r.1) (lookup (is_path r.0) rows))) (is_path-self r.0) ∙ is)),
-    numbers count rows sorted.1 (λ p o is. each p o (behind r rows p o sorted.0 is (is_path p r.0) refl)))
+  number_here count r.1 (λ o is. each r.0 o (ap (λ b. object_in (cond b (Some r.1) (lookup (is_path r.0) rows))) (is_path-self r.0) ∙ is)),
+  numbers count rows sorted.1 (λ p o is. each p o (behind r rows p o sorted.0 is (is_path p r.0) refl)),
+)
 
 -- ---- both
 

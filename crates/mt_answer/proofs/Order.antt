@@ -3,7 +3,6 @@ use Rattle.std.proofs.Common.{◌≡◌, ℕ, Bool, true, false, List, [], ◌�
 use Rattle.std.specs.Prelude.{is_some}
 use Rattle.mt_cond.specs.declared.conditions.Conditions.{Conditions}
 use Rattle.mt_error.specs.Refusals.{plain}
-use Rattle.mt_error.specs.declared.code.ErrorCode.{ErrorCode}
 use Rattle.mt_error.specs.declared.code.ErrorCode.TheVariants as error
 use Rattle.mt_error.specs.declared.refused.Refused.{Refused}
 use Rattle.mt_model.specs.Rows.{Rows}

@@ -1,5 +1,5 @@
 -- The lines of a page, by what a page lends.
-use Rattle.std.proofs.Common.{◌≡◌, ℕ, Bool, true, false, cond, List, [], ◌∷◌, ◌++◌, map, take, length, zero, suc, ◌<◌, arith, refl, sym, ap, subst, ◌∙◌}
+use Rattle.std.proofs.Common.{◌≡◌, ℕ, Bool, true, false, cond, List, [], ◌∷◌, ◌++◌, map, take, zero, suc, ◌<◌, arith, refl, sym, ap, subst, ◌∙◌}
 use Rattle.std.specs.List.{All, AllByRecursion, filter, flat_map}
 use Rattle.mt_live.specs.LiveTexts.{IsEntryListable, page_text, row_line}
 use Rattle.mt_model.specs.Listing.{is_from, listing, name_of}

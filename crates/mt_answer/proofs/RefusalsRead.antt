@@ -1,10 +1,9 @@
 -- Refusals over other bodies.
-use Rattle.std.proofs.Common.{◌≡◌, ℕ, Bool, not, ◌&&◌, List, [], ◌∷◌, Option, Some, None, option_map, Result, Ok, Err, refl, ap, ◌∙◌, if◌then◌else◌}
+use Rattle.std.proofs.Common.{◌≡◌, ℕ, not, ◌&&◌, List, [], ◌∷◌, Option, None, option_map, Result, Ok, Err, refl, ap, ◌∙◌, if◌then◌else◌}
 use Rattle.std.specs.Prelude.{is_some}
 use Rattle.mt_cond.specs.declared.conditions.Conditions.{Conditions}
 use Rattle.mt_cond.specs.declared.range.Range.{Range}
 use Rattle.mt_error.specs.Refusals.{plain}
-use Rattle.mt_error.specs.declared.refused.Refused.{Refused}
 use Rattle.mt_model.specs.Bodies.{rows_with}
 use Rattle.mt_model.specs.Rows.{Rows, at, is_directory, make_directory_refusal, object_at}
 use Rattle.mt_model.proofs.RowsWith.{is_directory-with, is_some-map, make_directory_refusal-with, object_at-with}

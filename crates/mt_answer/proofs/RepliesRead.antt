@@ -1,7 +1,7 @@
 -- Replies over other bodies.
-use Rattle.std.proofs.Common.{◌≡◌, ℕ, Bool, true, false, cond, List, [], ◌∷◌, ◌++◌, map, Option, Some, None, Result, Ok, Err, refl, sym, ap, ◌∙◌}
+use Rattle.std.proofs.Common.{◌≡◌, ℕ, Bool, true, false, cond, List, [], ◌∷◌, ◌++◌, map, Option, Some, None, refl, sym, ap, ◌∙◌}
 use Rattle.std.specs.Prelude.{IfSome, option_map}
-use Rattle.std.specs.List.{AllByRecursion, flat_map}
+use Rattle.std.specs.List.{AllByRecursion}
 use Rattle.std.specs.Map.{lookup}
 use Rattle.mt_cond.specs.Conditions.{judged}
 use Rattle.mt_cond.specs.Range.{ranged}
@@ -12,7 +12,7 @@ use Rattle.mt_cond.specs.declared.range.Range.{Range}
 use Rattle.mt_cond.specs.declared.range.Ranged.{Ranged}
 use Rattle.mt_cond.specs.declared.range.Ranged.TheVariants as part
 use Rattle.mt_live.specs.LiveTexts.{page_text, row_line}
-use Rattle.mt_model.specs.Bodies.{OfEntry, pair_with, rows_with}
+use Rattle.mt_model.specs.Bodies.{OfEntry, rows_with}
 use Rattle.mt_model.specs.Listing.{listing, result_set_size}
 use Rattle.mt_model.specs.Rows.{Rows, at, is_path, object_at, object_in, row_of}
 use Rattle.mt_model.proofs.RowsWith.{listing-with, object_at-with, result_set_size-with}
@@ -24,13 +24,11 @@ use Rattle.mt_request.specs.declared.request.Doing.{Doing}
 use Rattle.mt_request.specs.declared.request.Doing.TheVariants as doing
 use Rattle.mt_store.specs.Decisions.{found_by, found_in, read_decision}
 use Rattle.mt_store.specs.Laws.{found_with}
-use Rattle.mt_store.specs.declared.error.StoreError.{StoreError}
 use Rattle.mt_store.proofs.DecisionsRead.{read-with}
 use Rattle.mt_types.specs.Values.{entry_with, object_with, reply_with}
 use Rattle.mt_types.specs.declared.object.Entry.{Entry}
 use Rattle.mt_types.specs.declared.object.Entry.TheVariants as entry
 use Rattle.mt_types.specs.declared.object.Object.{Object}
-use Rattle.mt_types.specs.declared.reply.Reply.{Reply}
 use Rattle.mt_answer.specs.Answer.{found_reply, link_reply, listing_reply, look_reply, range_reply, ranged_reply, reply_to}
 use Rattle.mt_answer.proofs.RefusalsRead.{size_with}
 

@@ -11,19 +11,26 @@ use Rattle.mt_error.specs.declared.refused.Refused.{Refused}
 use Rattle.mt_http.specs.declared.message.Head.{Head}
 use Rattle.mt_live.specs.LiveTexts.{IsEntryListable}
 use Rattle.mt_model.specs.Bodies.{OfState, rows_with, state_with}
-use Rattle.mt_model.specs.CommandStep.{allowed}
+use Rattle.mt_model.specs.CommandStep.{allowed, step}
 use Rattle.mt_model.specs.Keeping.{KeepsLimits}
 use Rattle.mt_model.specs.Lawful.{Lawful}
 use Rattle.mt_model.specs.Laws.{KeepsSize, Reading}
-use Rattle.mt_model.specs.Rows.{Rows}
+use Rattle.mt_model.specs.Rows.{Rows, object_at}
 use Rattle.mt_model.specs.State.{State}
+use Rattle.mt_path.specs.AccountPath.{AccountPath}
+use Rattle.mt_reply.specs.Replies.{stored_reply}
+use Rattle.mt_reply.specs.declared.stamp.Stamp.{Stamp}
 use Rattle.mt_request.specs.Requests.{request_of}
 use Rattle.mt_request.specs.declared.request.Doing.{Doing}
+use Rattle.mt_request.specs.declared.request.Doing.TheVariants.{PutObject, PutLink}
 use Rattle.mt_request.specs.declared.request.Request.{Request}
 use Rattle.mt_types.specs.Values.{command_with, reply_with}
 use Rattle.mt_types.specs.declared.body.Body.{Body}
 use Rattle.mt_types.specs.declared.command.Command.{Command}
+use Rattle.mt_types.specs.declared.command.Command.TheVariants.{Put, Link}
 use Rattle.mt_types.specs.declared.limits.TheConstants.{MOST_COMMANDS}
+use Rattle.mt_types.specs.declared.object.Field.{Field}
+use Rattle.mt_types.specs.declared.object.Object.{Object}
 use Rattle.mt_answer.specs.Answer.{answer_in, answer_of, answer_with, command_of, growth, refuse, reply_to, stamp_of}
 use Rattle.mt_answer.specs.Judging.{is_put_object, len_of, md5_of, refusal_of, stored_len, stores_body}
 
@@ -113,6 +120,20 @@ abbrev pub DoneIsAllowed : Type 0
 DoneIsAllowed = (login : List ℕ) (head : Head) (s : State Body) (c : Conditions) (digest : Option (List ℕ)) (body : Body) (moment : ℕ) (command : Command Body)
     → refusal_of len_of (request_of login head) s.rows c digest ≡ None → command_of s.rows (request_of login head).doing body moment ≡ Some command
     → allowed len_of s command ≡ None
+
+-- ---- what a put is told
+
+-- the number, the moment and the digest of the object that then stands at its path
+abbrev pub PutIsTold : Type 0
+PutIsTold = (stamp : Stamp) (s : State Body) (c : Conditions) (p : AccountPath) (content_type : List ℕ) (durability : Option ℕ) (metadata : List Field) (body : Body) (o : Object Body)
+    → object_at (step s (Put p content_type body durability metadata stamp.moment)).rows p ≡ Some o
+    → reply_to len_of md5_of stamp s.count s.rows c (PutObject p content_type durability metadata) body.md5 ≡ stored_reply stamp o.number o.mtime o.body.md5
+
+-- so is a link, of an object at its source
+abbrev pub LinkIsTold : Type 0
+LinkIsTold = (stamp : Stamp) (s : State Body) (c : Conditions) (p source : AccountPath) (sum : List ℕ) (x o : Object Body) → object_at s.rows source ≡ Some x
+    → object_at (step s (Link p source stamp.moment)).rows p ≡ Some o
+    → reply_to len_of md5_of stamp s.count s.rows c (PutLink p source) sum ≡ stored_reply stamp o.number o.mtime o.body.md5
 
 -- ---- what replies ask of the rows
 

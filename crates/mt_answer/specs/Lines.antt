@@ -5,7 +5,6 @@ use Rattle.mt_live.specs.LiveTexts.{directory_data, object_data}
 use Rattle.mt_types.specs.declared.body.Body.{Body}
 use Rattle.mt_types.specs.declared.object.Entry.{Entry}
 use Rattle.mt_types.specs.declared.object.Entry.TheVariants as entry
-use Rattle.mt_types.specs.declared.object.Object.{Object}
 
 -- the line of a child
 abbrev pub line_of : List ℕ × Entry Body → List ℕ

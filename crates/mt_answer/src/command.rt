@@ -15,12 +15,7 @@ use mt_types::{Body, Command, Entry, Path};
 /// The command that does what a request asks for, at a moment in seconds since 1970: none where something is looked at, or where a
 /// directory stands already. The body is that of an object that is put; any other is dropped. What is asked for is moved into
 /// the command, and no memory is taken.
-pub fn command_of(
-    tree: &Tree<Body>,
-    doing: Doing,
-    body: Body,
-    moment: u64,
-) -> Option<Command<Body>>
+pub fn command_of(tree: &Tree<Body>, doing: Doing, body: Body, moment: u64) -> Option<Command<Body>>
     requires fits { FitsDoing doing }
     requires placed { IsTrue (is_placed body) }
     requires moment { moment ≤ LAST_MOMENT }

@@ -53,11 +53,7 @@ fn is_put_object(doing: &Doing) -> bool
 }
 
 // Why the account doesn't do it: the tree, then the conditions of the request, then its range.
-fn account_refusal(
-    tree: &Tree<Body>,
-    conditions: &Conditions,
-    doing: &Doing,
-) -> Option<Refused>
+fn account_refusal(tree: &Tree<Body>, conditions: &Conditions, doing: &Doing) -> Option<Refused>
     ensures { result ≡ account_refusal len_of tree.now conditions.now doing.now }
 {
     match doing {
@@ -182,10 +178,8 @@ fn code_of(refusal: Refusal) -> ErrorCode
         Refusal::LinkNotObject => ErrorCode::LinkNotObject,
         Refusal::AssetsTooLarge => ErrorCode::InvalidJob,
         Refusal::JobNotFound => ErrorCode::JobNotFound,
-        Refusal::JobState
-        | Refusal::NotATask
-        | Refusal::AlreadyCommitted
-        | Refusal::NotComplete => ErrorCode::JobState,
+        Refusal::JobState | Refusal::NotATask | Refusal::AlreadyCommitted | Refusal::NotComplete =>
+            ErrorCode::JobState,
         Refusal::TooManyInputs => ErrorCode::InvalidArgument,
         Refusal::UploadNotFound => ErrorCode::UploadNotFound,
         Refusal::UploadState => ErrorCode::UploadState,

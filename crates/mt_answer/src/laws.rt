@@ -1,5 +1,5 @@
 //! Laws: answers over references are those over the bytes that they stand for, and what isn't refused may be done.
-ghost use Rattle.mt_answer.specs.Laws.{AddedIsRead, AnswersAreRead, BodyWithoutRoom, DoneIsAllowed, FullIsRead, LawfulIsListable, RefusalsAreRead, RefusedIsRead, ShownIsRead, StaysRefused, StoringIsRead};
+ghost use Rattle.mt_answer.specs.Laws.{AddedIsRead, AnswersAreRead, BodyWithoutRoom, DoneIsAllowed, FullIsRead, LawfulIsListable, LinkIsTold, PutIsTold, RefusalsAreRead, RefusedIsRead, ShownIsRead, StaysRefused, StoringIsRead};
 
 /// Over a state of references a request is answered as over the bytes that are read for them: the same reply, the same command and
 /// the same growth, by their bodies' bytes.
@@ -30,6 +30,12 @@ pub fn stays_refused()
 /// The account takes the command of a request that isn't refused.
 pub fn done_is_allowed()
     ensures { DoneIsAllowed }
+{}
+
+/// A put is told the number, the moment and the digest of the object that then stands at its path, and so is a link.
+pub fn puts_are_told()
+    ensures put { PutIsTold }
+    ensures link { LinkIsTold }
 {}
 
 /// The rows of a lawful state within its limits can be told in replies and on pages.

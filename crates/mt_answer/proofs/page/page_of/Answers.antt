@@ -25,7 +25,7 @@ returns c =
     let marker : c.as_slice-marker.result.now ≡ c.args.page.now.marker = search rules in
     let items : c.as_slice.result.now ≡ c.in_ok-children.children.items = search rules in
     let text : flat_map line_of (map lent c.as_slice.result.now) ≡ page_text len_of (map row_of (listing c.args.tree.now c.args.path.now c.args.page.now.marker c.args.page.now.limit)) =
-        ap (λ (page : List (Listed Body)). flat_map line_of (map lent page)) items
-        ∙ page_lines (listing c.args.tree.now c.args.path.now c.as_slice-marker.result.now c.args.page.now.limit) c.in_ok-children.children.items c.in_ok-children.ensures.rows
-        ∙ ap (λ (m : List ℕ). page_text len_of (map row_of (listing c.args.tree.now c.args.path.now m c.args.page.now.limit))) marker in
+    ap (λ (page : List (Listed Body)). flat_map line_of (map lent page)) items
+    ∙ page_lines (listing c.args.tree.now c.args.path.now c.as_slice-marker.result.now c.args.page.now.limit) c.in_ok-children.children.items c.in_ok-children.ensures.rows
+    ∙ ap (λ (m : List ℕ). page_text len_of (map row_of (listing c.args.tree.now c.args.path.now m c.args.page.now.limit))) marker in
     rw text at c.text_of.ensures
