@@ -113,7 +113,7 @@ module _ {B : Type 0} (size : B → ℕ) where
   refusal_of request rows c digest =
       first_of (request.early ∷ option_map plain (digest_refusal request.wish digest) ∷ option_map plain request.late ∷ account_refusal rows c request.doing ∷ [])
 
--- the request stores its body
+-- an object is put
 abbrev pub is_put_object : Doing → Bool
 is_put_object (doing.PutObject p content_type durability metadata) = true
 is_put_object doing.Nothing = false
