@@ -1,6 +1,8 @@
-//! What data can't show of `mt_adapters`: real files and streams, the system's clock, and readers, writers and clocks
+//! What data can't show of `mt_adapters`: real files, streams and sockets, the system's clock, and readers, writers and clocks
 //! that fail.
 #![tactic(auto)]
 
+#[cfg(test)]
+mod tcp;
 #[cfg(test)]
 mod tests;

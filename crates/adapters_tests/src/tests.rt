@@ -181,7 +181,7 @@ fn a_source_reads_ahead_and_loses_nothing(rt: HostRuntime) -> Result<(), Fail> {
         Bytes(b"lo"),
         Interrupted,
     ];
-    let mut source = Counted::new(rt.alloc(), Fake::of(answers))?;
+    let mut source = Counted::reading(rt.alloc(), Fake::of(answers))?;
     let (steps, bytes) = read_through(rt.alloc(), &mut source)?;
     assert_eq!(rt;
         steps.as_slice(),
@@ -202,7 +202,7 @@ fn a_line_is_given_whole_and_nothing_behind_it(rt: HostRuntime) -> Result<(), Fa
         Interrupted,
         Bytes(b"\n\r\nbody"),
     ];
-    let mut source = Counted::new(rt.alloc(), Fake::of(answers))?;
+    let mut source = Counted::reading(rt.alloc(), Fake::of(answers))?;
     // what reads into pieces of eight bytes answer and give; one with nothing read ahead gives a byte
     let table: [(ReadStep, &'static [u8]); 9] = [
         (Took(1), b"G"),
@@ -236,7 +236,7 @@ fn a_sink_that_takes_nothing_fails(rt: HostRuntime) -> Result<(), Fail> {
         (&[Broken, Count(5)], false, 1),
     ];
     for (answers, whole, faults) in table {
-        let mut sink = Counted::over(Fake::of(answers));
+        let mut sink = Counted::of(Fake::of(answers));
         assert_eq!(rt; write_all(&mut sink, b"hello").is_ok(), whole);
         assert_eq!(rt; sink.faults(), faults);
     }
@@ -247,9 +247,9 @@ fn a_sink_that_takes_nothing_fails(rt: HostRuntime) -> Result<(), Fail> {
 fn real_streams_carry_bytes(rt: HostRuntime) -> Result<(), Fail> {
     let alloc = rt.alloc();
     let path = scratch(&rt, "stream")?;
-    let mut sink = Counted::over(File::create(&rt, &path)?);
+    let mut sink = Counted::of(File::create(&rt, &path)?);
     assert!(rt; write_all(&mut sink, b"stream").is_ok());
-    let mut source = Counted::new(alloc, OpenOptions::new().read(true).open(&rt, &path)?)?;
+    let mut source = Counted::reading(alloc, OpenOptions::new().read(true).open(&rt, &path)?)?;
     let (_, bytes) = read_through(alloc, &mut source)?;
     assert_eq!(rt; bytes.as_slice(), b"stream".as_slice());
     fs::remove_file(&rt, &path)?;

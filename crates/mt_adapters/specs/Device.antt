@@ -1,5 +1,5 @@
 -- What a device hands on through an adapter that counts its faults.
-use Rattle.std.specs.Prelude.{ℕ, ◌+◌, min, List, take, Option, Result, Ok, Err}
+use Rattle.std.specs.Prelude.{ℕ, ◌+◌, min, List, take, Option, Some, None, Result, Ok, Err}
 use Rattle.std.specs.Io.KnownBytes.{Consumes, Appends, Keeps, IsAtEnd}
 use Rattle.mt_edge.specs.declared.source.ReadStep.{ReadStep}
 use Rattle.mt_edge.specs.declared.source.ReadStep.TheVariants as read
@@ -28,6 +28,29 @@ faults_after_write faults write.Failed = one_more faults
 abbrev pub faults_after : {T E : Type 0} → ℕ → Result T E → ℕ
 faults_after faults (Ok x) = faults
 faults_after faults (Err e) = one_more faults
+
+-- the counts of a link: of reads that failed, and of writes
+pub record LinkState : Type 0 where
+  pub read_faults : ℕ
+  pub write_faults : ℕ
+
+-- a link of which no call has failed yet
+abbrev pub first_link : LinkState
+first_link = record { read_faults = 0; write_faults = 0 }
+
+-- the counts of a door: of links that it gave, and of calls that failed
+pub record DoorState : Type 0 where
+  pub taken : ℕ
+  pub faults : ℕ
+
+-- a door that has given no link yet
+abbrev pub first_door : DoorState
+first_door = record { taken = 0; faults = 0 }
+
+-- the counts after a call for a link: one that gave none has failed
+abbrev pub after_next : {L : Type 0} → DoorState → Option L → DoorState
+after_next d (Some link) = record d { taken = d.taken + 1 }
+after_next d None = record d { faults = one_more d.faults }
 
 -- a read into a piece, where the device knows what is left: what it gave came into the piece, and nothing is lost
 abbrev pub HandsOn : Option (List ℕ) → List ℕ → ReadStep → Option (List ℕ) → Type 0

@@ -3,6 +3,7 @@ ghost use Rattle.std.specs.Prelude.{◌≡◌, ◌≢◌, ℕ, ◌+◌, ◌<◌,
 ghost use Rattle.std.specs.Io.{ReadsAtMost, WritesAtMost};
 ghost use Rattle.std.specs.Io.KnownBytes.{ReadConsumes, WriteAppends};
 
+use crate::patient::Patient;
 use memchr::memchr;
 use mt_edge::{ReadStep, Sink, Source, WriteStep};
 use std::alloc::{AllocError, Global};
@@ -25,10 +26,10 @@ pub struct Counted<D> {
 }
 
 /// Standard input, read 64 KiB ahead.
-pub type StdSource = Counted<BufReader<Stdin>>;
+pub type StdSource = Counted<BufReader<Patient<Stdin>>>;
 
 /// Standard output. A write of it is one write of the system.
-pub type StdSink = Counted<Stdout>;
+pub type StdSink = Counted<Patient<Stdout>>;
 
 impl<D> Model for Counted<D> {
     ghost use Rattle.mt_adapters.specs.Device.{CountedState};
@@ -40,7 +41,7 @@ impl<D> Model for Counted<D> {
 
 impl<D> Counted<D> {
     /// A device that has not failed yet. It makes no call of it.
-    pub fn over(device: D) -> Counted<D>
+    pub fn of(device: D) -> Counted<D>
         ensures { result ≡ record { device = device; faults = 0 } }
     {
         Counted { device, faults: 0 }
@@ -52,6 +53,22 @@ impl<D> Counted<D> {
     {
         self.faults
     }
+
+    // The device.
+    pub(crate) fn device(&self) -> &D
+        ensures { result.now ≡ self.now.device }
+    {
+        &self.device
+    }
+}
+
+impl<R: Read> Counted<BufReader<R>> {
+    // Drops what is read ahead, or else what one read of 64 KiB gives, and tells how much.
+    pub(crate) fn skip(&mut self) -> io::Result<usize> {
+        let count = self.device.fill_buf()?.len();
+        self.device.consume(count);
+        Ok(count)
+    }
 }
 
 impl<R: Read + Drop> Counted<BufReader<R>> {
@@ -59,15 +76,39 @@ impl<R: Read + Drop> Counted<BufReader<R>> {
     ghost use Rattle.std.specs.Io.Buffered.{reader_inner, reader_buffer, reader_capacity};
 
     /// A reader with a buffer of 64 KiB before it, which has not failed yet. It makes no call of it.
-    pub fn new(alloc: Global, reader: R) -> Result<Counted<BufReader<R>>, AllocError>
+    pub fn reading(alloc: Global, reader: R) -> Result<Counted<BufReader<R>>, AllocError>
         ensures reader { IfOk result (λ c. reader_inner c.device ≡ reader) }
         ensures buffer { IfOk result (λ c. (reader_buffer c.device ≡ []) × (reader_capacity c.device ≡ BUFFER)) }
         ensures faults { IfOk result (λ c. c.faults ≡ 0) }
     {
         match BufReader::with_capacity(alloc, BUFFER, reader) {
-            Ok(device) => Ok(Counted::over(device)),
+            Ok(device) => Ok(Counted::of(device)),
             Err(_) => Err(AllocError),
         }
+    }
+}
+
+impl Counted<BufReader<Patient<Stdin>>> {
+    ghost use Rattle.std.specs.Prelude.{◌≡◌, [], IfOk};
+    ghost use Rattle.std.specs.Io.Buffered.{reader_buffer};
+
+    /// Standard input, of which no read has failed yet. It makes no call of the system.
+    pub fn new(alloc: Global, stdin: Stdin) -> Result<StdSource, AllocError>
+        ensures buffer { IfOk result (λ c. reader_buffer c.device ≡ []) }
+        ensures faults { IfOk result (λ c. c.faults ≡ 0) }
+    {
+        Counted::reading(alloc, Patient::over(stdin))
+    }
+}
+
+impl Counted<Patient<Stdout>> {
+    ghost use Rattle.std.specs.Prelude.{◌≡◌};
+
+    /// Standard output, of which no write has failed yet. It makes no call of the system.
+    pub fn over(stdout: Stdout) -> StdSink
+        ensures { result.faults ≡ 0 }
+    {
+        Counted::of(Patient::over(stdout))
     }
 }
 
@@ -86,7 +127,7 @@ fn read_retrying<R: Read>(reader: &mut R, into: &mut [u8]) -> io::Result<usize>
 }
 
 // Writes, again where a signal cut the call short.
-fn write_retrying<W: Write>(writer: &mut W, piece: &[u8]) -> io::Result<usize>
+pub(crate) fn write_retrying<W: Write>(writer: &mut W, piece: &[u8]) -> io::Result<usize>
     ensures bound { WritesAtMost result piece.now }
     ensures bytes { WriteAppends (W.contents writer.old) (W.contents writer.new) result piece.now }
 {
