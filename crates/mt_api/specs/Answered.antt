@@ -1,8 +1,8 @@
 -- What became of a request: what was read of its body, the history that the disk then has, and what the reply shows.
 use Rattle.std.specs.Prelude.{◌≡◌, ◌≢◌, ◌⊎◌, ℕ, ◌+◌, ◌≤◌, true, false, List, ◌++◌, length, Option, Some, None, IfSome, option_map}
 use Rattle.std.specs.Option.{ForSome}
-use Rattle.md5.specs.Md5.{md5}
-use Rattle.mt_answer.specs.Answer.{Answer, answer_of, stored_len}
+use Rattle.mt_answer.specs.Answer.{Answer, answer_of}
+use Rattle.mt_answer.specs.Judging.{stored_len}
 use Rattle.mt_base.specs.Lists.{IsPrefixOf}
 use Rattle.mt_body.specs.Stored.{IsStored, bytes_of, pieces_that_fit}
 use Rattle.mt_cond.specs.Conditions.{conditions_of}
@@ -53,7 +53,7 @@ answer_at asked engine s bytes = answer_of asked.login engine.log.limit s (used 
 -- head and the state take
 abbrev pub left_behind : Asked → EngineState → State Bytes → Bytes → ℕ
 left_behind asked engine s bytes =
-    pieces_that_fit engine.log.limit (used engine) (stored_len length md5 (request_of asked.login asked.head) s.rows (conditions_of asked.head.fields) (length bytes))
+    pieces_that_fit engine.log.limit (used engine) (stored_len length (request_of asked.login asked.head) s.rows (conditions_of asked.head.fields) (length bytes))
 
 -- The body was read to its end before a reply is given, and to its end where it is not whole; the source stands at what follows.
 abbrev pub Hears : Answered → Told → Option (List ℕ) → Type 0

@@ -10,12 +10,20 @@ ghost use Rattle.mt_log.specs.LogState.{Stands};
 ghost use Rattle.mt_model.specs.State.{State};
 
 use crate::answered::Answered;
+use crate::call::Call;
+use crate::perform::answer_plain;
+use crate::put::put;
+use mt_answer::stores_body;
 use mt_base::LAST_MOMENT;
+use mt_cond::Conditions;
 use mt_disk::Disk;
 use mt_edge::Source;
 use mt_engine::Engine;
-use mt_http::{BodyStream, Head};
-use std::alloc::Global;
+use mt_http::{BodyStream, Head, closes};
+use mt_reply::Stamp;
+use mt_request::laws::asks_within_limits;
+use mt_request::request_of;
+use std::alloc::{AllocError, Global};
 
 /// Answers a request at a moment. Its body is read to its end first, and stored where only its digest or the want of room could
 /// still refuse it; the command that it asks for is on the disk before the reply is given out. The reply is to be sent before the
@@ -48,8 +56,8 @@ pub fn answer<D: Disk, S: Source>(
     ensures stands { Stands D.seen D.may_leave disk.new engine.new.log }
     ensures told { engine.new.log.closed ≡ false → is_some (D.seen disk.new) ≡ is_some (D.seen disk.old) }
     ensures live { result ≢ Answered.Disk → result ≢ Answered.Memory → engine.new.log.closed ≡ false }
-    ensures limit { engine.new.log.limit ≡ engine.old.log.limit }
-    ensures version { engine.new.log.is_old ≡ engine.old.log.is_old }
+    ensures limit { engine.new.log.closed ≡ false → engine.new.log.limit ≡ engine.old.log.limit }
+    ensures version { engine.new.log.closed ≡ false → engine.new.log.is_old ≡ engine.old.log.is_old }
     ensures disk { result ≡ Answered.Disk → Rose (D.faults disk.old) (D.faults disk.new) }
     ensures failed { result ≡ Answered.SourceFault → Rose (S.read_faults body.old.source.now) (S.read_faults body.new.source.now) }
     ensures faults { NeverFell (D.faults disk.old) (D.faults disk.new) }
@@ -58,5 +66,29 @@ pub fn answer<D: Disk, S: Source>(
     ensures stays { S.source_stays body.old.source.now body.new.source.now }
     ensures after { after_body body.new.framer (S.left body.new.source.now) ≡ after_body body.old.framer (S.left body.old.source.now) }
 {
-    Answered::Memory
+    let conditions = match Conditions::read(alloc, &head.fields) {
+        Ok(conditions) => conditions,
+        Err(AllocError) => return Answered::Memory,
+    };
+    let request = match request_of(alloc, login, head) {
+        Ok(request) => request,
+        Err(AllocError) => return Answered::Memory,
+    };
+    asks_within_limits();
+    let stamp = Stamp {
+        position: engine.position(),
+        moment: now,
+        closes: closes(head.minor, head.fields.as_slice()),
+    };
+    let is_stored = stores_body(&request, engine.tree(), &conditions);
+    let call = Call {
+        request,
+        conditions,
+        stamp,
+    };
+    if is_stored {
+        put(alloc, engine, disk, call, body)
+    } else {
+        answer_plain(alloc, engine, disk, call, body)
+    }
 }
