@@ -1,5 +1,5 @@
 -- A command that ends a run, and the answer to it.
-use Rattle.std.proofs.Common.{◌≡◌, ◌≢◌, ◌⊎◌, ◌≤◌, ◌<◌, ℕ, ◌+◌, Bool, false, true, inl, inr, List, [], ◌∷◌, ◌++◌, length, Option, Some, None, refl, sym, ap, ◌∙◌, subst, append-nil, arith, true≢false}
+use Rattle.std.proofs.Common.{◌≡◌, ◌≢◌, ◌⊎◌, ◌≤◌, ◌<◌, ℕ, ◌+◌, Bool, false, true, inl, inr, ⊎_elim, List, [], ◌∷◌, ◌++◌, length, Option, Some, None, refl, sym, ap, ◌∙◌, subst, append-nil, arith, true≢false}
 use Rattle.std.specs.Prelude.{is_some}
 use Rattle.std.proofs.lemmas.Option.{same_Some}
 use Rattle.md5.specs.Md5.{md5}
@@ -101,8 +101,7 @@ size_is c = sym (same_size (λ b. blank_body) c)
 pub reached_none : (result : Accepted) (engine : EngineState) (run : RunState) (command : Command Body) (c : Command Bytes) (h k : History) → result ≢ accepted.Added → result ≢ accepted.Disk
     → Reaches result engine run command c h k → k ≡ h
 reached_none result engine run command c h k added disk (inl e) = e
-reached_none result engine run command c h k added disk (inr (e, takes, (inl a))) = absurd (added a)
-reached_none result engine run command c h k added disk (inr (e, takes, (inr d))) = absurd (disk d)
+reached_none result engine run command c h k added disk (inr x) = ⊎_elim (λ a. absurd (added a)) (λ d. absurd (disk d)) x.2
 
 -- ---- the exits of an answer with a command
 
@@ -179,14 +178,14 @@ module _ (seen : Option Files) (engine : EngineState) (run : RunState) (base : S
   -- it may stand or not
   pub reaches_added : (result : Accepted) (k : History) → Reaches result engine run command (command_with (bytes_of qs) command) h k → (k ≡ h) ⊎ (k ≡ h ++ (answer_at asked engine (replay base h) bytes).added)
   reaches_added result k (inl at) = inl at
-  reaches_added result k (inr (at, takes, how)) = inr (at ∙ ap (λ (a : Answer Bytes). h ++ a.added) (sym (added takes)))
+  reaches_added result k (inr x) = inr (x.0 ∙ ap (λ (a : Answer Bytes). h ++ a.added) (sym (added x.1)))
 
   -- each moment leaves a front of the history with it
   pub leaves_added : {D : Type 0} (moment : D → ℕ) (left_since : D → ℕ → Files → Type 0) (old new : D) (result : Accepted) (k : History) → Reaches result engine run command (command_with (bytes_of qs) command) h k
       → LeavesOnly moment left_since old new (IsBetween base h k) → LeavesOnly moment left_since old new (IsBetween base h (h ++ command_with (bytes_of qs) command ∷ []))
   leaves_added moment left_since old new result k (inl at) leaves =
       leaves_more moment left_since old new base h h (h ++ command_with (bytes_of qs) command ∷ []) (front_of h (command_with (bytes_of qs) command)) (leaves_at moment left_since old new base h k h at leaves)
-  leaves_added moment left_since old new result k (inr (at, takes, how)) leaves = leaves_at moment left_since old new base h k (h ++ command_with (bytes_of qs) command ∷ []) at leaves
+  leaves_added moment left_since old new result k (inr x) leaves = leaves_at moment left_since old new base h k (h ++ command_with (bytes_of qs) command ∷ []) x.0 leaves
 
 keeps_by : (result : Answered) (engine engine' new : EngineState) → engine' ≡ new → new.log.limit ≡ engine.log.limit → new.log.is_old ≡ engine.log.is_old → new.log.closed ≡ false → Keeps result engine engine'
 keeps_by result engine engine' new is limit old is_open = record {

@@ -45,6 +45,7 @@ fn refusal_without_room(engine: &Engine, call: &Call, digest: &[u8; 16]) -> Refu
 }
 
 // Answers a put whose body is stored in a run: its digest is judged, and the command added.
+#[tactic(none)]
 fn decide<D: Disk>(
     alloc: Global,
     engine: &mut Engine,
@@ -78,6 +79,7 @@ fn decide<D: Disk>(
 }
 
 // Answers a put all of whose bytes are in its run, once its body is known to be whole.
+#[tactic(none)]
 fn stored<D: Disk, S: Source>(
     alloc: Global,
     engine: &mut Engine,
@@ -121,6 +123,7 @@ fn stored<D: Disk, S: Source>(
 }
 
 // Answers a put whose body has no room: the rest of it is read, and its digest judged. The pieces that had room stay.
+#[tactic(none)]
 fn lacking<D: Disk, S: Source>(
     alloc: Global,
     engine: &mut Engine,
@@ -166,6 +169,7 @@ fn lacking<D: Disk, S: Source>(
 }
 
 /// Answers a put that only the digest of its body or the want of room could still refuse.
+#[tactic(none)]
 pub(crate) fn put<D: Disk, S: Source>(
     alloc: Global,
     engine: &mut Engine,
