@@ -1,0 +1,19 @@
+//! What each request is answered: a reply and at most one command, by the account, the log's room, the request and its moment.
+//! No disk is called here.
+//!
+//! - `judge`: why a request is refused, in the one order of all refusals, and whether its body is stored.
+//! - `command`: the command that does it. `done`: the reply to what is done. `look`: to what is looked at; `page`: the rows of a page.
+//! - `laws`: answers over references are those over the bytes that they stand for; what isn't refused may be done.
+//! - `specs/Judging`: the order of refusals (`refusal_of`). `specs/Answer`: the answer (`answer_of`).
+#![tactic(auto)]
+
+mod command;
+mod done;
+mod judge;
+pub mod laws;
+mod look;
+mod page;
+
+pub use command::command_of;
+pub use done::reply_to;
+pub use judge::{refusal_of, stores_body};
