@@ -122,7 +122,7 @@ module _ (seen : Option Files) (engine : EngineState) (run : RunState) (base : S
   len : ℕ
   len = body_len (request_of asked.login asked.head).doing (length bytes)
 
-  reply_of : Reply Body
+  abbrev reply_of : Reply Body
   reply_of = reply_to len_of md5_of (stamp_of asked.head (engine.state.count + 1) asked.moment) engine.state.count engine.state.rows (conditions_of asked.head.fields) (request_of asked.login asked.head).doing (md5 bytes)
 
   room : Takes engine run command → used engine + growth (body_len (request_of asked.login asked.head).doing (length bytes)) command ≤ engine.log.limit

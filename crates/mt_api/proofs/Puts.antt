@@ -1,5 +1,5 @@
 -- A put: its exits.
-use Rattle.std.proofs.Common.{◌≡◌, ◌≢◌, ◌⊎◌, ◌≤◌, ◌<◌, ℕ, ◌+◌, ◌*◌, ◌/◌, ◌-◌, Bool, false, true, ◌&&◌, inl, inr, ⊎_elim, List, [], ◌∷◌, ◌++◌, length, Option, Some, None, refl, sym, ap, ◌∙◌, subst, append-nil, arith, rules}
+use Rattle.std.proofs.Common.{◌≡◌, ◌≢◌, ◌⊎◌, ◌≤◌, ◌<◌, ℕ, ◌+◌, ◌*◌, ◌/◌, ◌-◌, Bool, false, true, ◌&&◌, inl, inr, ⊎_elim, List, [], ◌∷◌, ◌++◌, length, Option, Some, None, refl, sym, ap, ◌∙◌, subst, append-nil, arith, rules, length-append}
 use Rattle.std.specs.Prelude.{IfSome, if◌then◌else◌, is_some, nat_le, not, option_map}
 use Rattle.std.proofs.lemmas.Bool.{le-leb, lt-leb}
 use Rattle.md5.specs.Md5.{md5}
@@ -68,6 +68,12 @@ nothing_by limit before false is =
 pub nothing_fits : (limit before : ℕ) → pieces_that_fit limit before 0 ≡ 0
 nothing_fits limit before = nothing_by limit before (nat_le (before + pieces_size 0) limit) refl
 
+-- what a run has taken that began at the gate
+pub part_next : (limit before next next' len : ℕ) → next' ≡ next + pieces_that_fit limit (next + 1) len → next + 1 ≡ before → next' + 1 ≡ before + pieces_that_fit limit before len
+part_next limit before next next' len grew fresh =
+    let same = ap (λ (n : ℕ). pieces_that_fit limit n len) fresh in
+    omega (arith, grew, fresh, same)
+
 -- ---- what is stored
 
 and_left : (a b : Bool) → a && b ≡ true → a ≡ true
@@ -91,6 +97,36 @@ put_adds rows (doing.Look p page range) body moment is = cc
 
 pub stored_adds : (engine : EngineState) (call : Call) → StoresBody engine call → Adds engine call.request.doing
 stored_adds engine call stores body moment = put_adds engine.state.rows call.request.doing body moment (is_put engine call stores)
+
+-- a run that has all of a body is to end with its command, where that isn't refused
+pub whole_ready : (seen : Option Files) (engine : EngineState) (run : RunState) (base : State Bytes) (h : History) (qs : List (List ℕ)) (call : Call) (body : Body) (bytes : Bytes) → StoresBody engine call
+    → IsWhole seen engine run base h qs body bytes → refusal engine call (Some (md5 bytes)) ≡ None → IsReady seen engine run base h qs call body bytes
+whole_ready seen engine run base h qs call body bytes stores w none =
+    let len = len_is engine call stores (length bytes) in
+    record {
+      writing = w.writing;
+      none = none;
+      stored = λ put. (w.stored, w.reads);
+      next = w.next ∙ ap (λ (n : ℕ). used engine + pieces_size n) (sym len);
+      fits = ap (λ (n : ℕ). pieces_that_fit engine.log.limit (used engine) n) len ∙ all_fit engine.log.limit (used engine) (length bytes) (omega (arith, w.next, w.fits)) ∙ ap (λ (n : ℕ). pieces_size n) (sym len);
+    }
+
+-- what a run with all of a body has taken is what fits
+pub whole_next : (seen : Option Files) (engine : EngineState) (run : RunState) (base : State Bytes) (h : History) (qs : List (List ℕ)) (body : Body) (bytes : Bytes) → IsWhole seen engine run base h qs body bytes
+    → run.next + 1 ≡ used engine + pieces_that_fit engine.log.limit (used engine) (length bytes)
+whole_next seen engine run base h qs body bytes w =
+    w.next ∙ ap (λ (n : ℕ). used engine + n) (sym (all_fit engine.log.limit (used engine) (length bytes) (omega (arith, w.next, w.fits))))
+
+-- and so it is where more came that has no room
+pub lacking_next : (seen : Option Files) (engine : EngineState) (run : RunState) (base : State Bytes) (h : History) (qs : List (List ℕ)) (bytes more : Bytes) → HasNoRoom seen engine run base h qs bytes
+    → run.next + 1 ≡ used engine + pieces_that_fit engine.log.limit (used engine) (length (bytes ++ more))
+lacking_next seen engine run base h qs bytes more w =
+    w.next ∙ ap (λ (n : ℕ). used engine + n) (same_fit engine.log.limit (used engine) (length bytes) (length (bytes ++ more)) w.full (omega (arith, length-append bytes more)))
+
+pub lacking_full : (seen : Option Files) (engine : EngineState) (run : RunState) (base : State Bytes) (h : History) (qs : List (List ℕ)) (bytes more : Bytes) → HasNoRoom seen engine run base h qs bytes
+    → engine.log.limit < used engine + pieces_size (length (bytes ++ more))
+lacking_full seen engine run base h qs bytes more w =
+    omega (arith, w.full, pieces_rise (length bytes) (length (bytes ++ more)) (omega (arith, length-append bytes more)))
 
 -- ---- over a history
 

@@ -78,7 +78,6 @@ pub(crate) fn adds(tree: &Tree<Body>, doing: &Doing) -> bool
 }
 
 /// Ends a run with the command of a call that isn't refused. The reply is made first, and given out once the command is on the disk.
-#[tactic(none)]
 pub(crate) fn add<D: Disk>(
     alloc: Global,
     engine: &mut Engine,

@@ -50,7 +50,6 @@ fn look(alloc: Global, engine: &Engine, call: &Call) -> Answered
 }
 
 // Does what is asked for, which isn't refused.
-#[tactic(none)]
 fn perform<D: Disk>(alloc: Global, engine: &mut Engine, disk: &mut D, call: Call) -> Answered
     requires stands { Stands D.seen D.may_leave disk.old engine.old.log }
     requires is_open { engine.old.log.closed ≡ false }
@@ -77,7 +76,6 @@ fn perform<D: Disk>(alloc: Global, engine: &mut Engine, disk: &mut D, call: Call
 }
 
 // Answers a call whose body was read and isn't stored, by its digest where that is wanted.
-#[tactic(none)]
 fn settle<D: Disk>(
     alloc: Global,
     engine: &mut Engine,
@@ -109,7 +107,6 @@ fn settle<D: Disk>(
 }
 
 /// Answers a call whose body isn't stored: it is refused whatever its body is, or puts no object.
-#[tactic(none)]
 pub(crate) fn answer_plain<D: Disk, S: Source>(
     alloc: Global,
     engine: &mut Engine,

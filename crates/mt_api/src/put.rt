@@ -45,7 +45,6 @@ fn refusal_without_room(engine: &Engine, call: &Call, digest: &[u8; 16]) -> Refu
 }
 
 // Answers a put whose body is stored in a run: its digest is judged, and the command added.
-#[tactic(none)]
 fn decide<D: Disk>(
     alloc: Global,
     engine: &mut Engine,
@@ -79,7 +78,6 @@ fn decide<D: Disk>(
 }
 
 // Answers a put all of whose bytes are in its run, once its body is known to be whole.
-#[tactic(none)]
 fn stored<D: Disk, S: Source>(
     alloc: Global,
     engine: &mut Engine,
@@ -123,7 +121,6 @@ fn stored<D: Disk, S: Source>(
 }
 
 // Answers a put whose body has no room: the rest of it is read, and its digest judged. The pieces that had room stay.
-#[tactic(none)]
 fn lacking<D: Disk, S: Source>(
     alloc: Global,
     engine: &mut Engine,
@@ -169,7 +166,6 @@ fn lacking<D: Disk, S: Source>(
 }
 
 /// Answers a put that only the digest of its body or the want of room could still refuse.
-#[tactic(none)]
 pub(crate) fn put<D: Disk, S: Source>(
     alloc: Global,
     engine: &mut Engine,

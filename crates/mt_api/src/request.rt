@@ -28,7 +28,6 @@ use std::alloc::{AllocError, Global};
 /// Answers a request at a moment. Its body is read to its end first, and stored where only its digest or the want of room could
 /// still refuse it; the command that it asks for is on the disk before the reply is given out. The reply is to be sent before the
 /// next request is answered.
-#[tactic(none)]
 pub fn answer<D: Disk, S: Source>(
     alloc: Global,
     login: &str,
