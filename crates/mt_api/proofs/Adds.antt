@@ -194,7 +194,7 @@ keeps_by result engine engine' new is limit old is_open = record {
   live = λ d m. ap (λ (x : EngineState). x.log.closed) is ∙ is_open;
 }
 
-keeps_closed : (result : Answered) (engine engine' : EngineState) → engine'.log.closed ≡ true → (result ≢ answered.Disk → result ≢ answered.Memory → ⊥) → Keeps result engine engine'
+pub keeps_closed : (result : Answered) (engine engine' : EngineState) → engine'.log.closed ≡ true → (result ≢ answered.Disk → result ≢ answered.Memory → ⊥) → Keeps result engine engine'
 keeps_closed result engine engine' is not = record {
   limit = λ o. absurd (true≢false (sym is ∙ o));
   version = λ o. absurd (true≢false (sym is ∙ o));

@@ -13,6 +13,9 @@ use Rattle.mt_engine.specs.History.{Bytes, HasHistory, History}
 use Rattle.mt_engine.specs.declared.publish.RunEnd.{RunEnd}
 use Rattle.mt_engine.proofs.Ends.{all_of}
 use Rattle.mt_error.specs.declared.refused.Refused.{Refused}
+use Rattle.mt_http.specs.declared.message.Ending.TheVariants as ending
+use Rattle.mt_http.specs.declared.stage.Stage.{Stage}
+use Rattle.mt_http.specs.declared.stage.Stage.TheVariants as at
 use Rattle.mt_log.specs.LogState.{told}
 use Rattle.mt_log.specs.RunState.{RunState}
 use Rattle.mt_model.specs.State.{State}
@@ -23,8 +26,8 @@ use Rattle.mt_types.specs.declared.body.Body.{Body}
 use Rattle.mt_types.specs.declared.reply.Reply.{Reply}
 use Rattle.mt_types.specs.declared.reply.ReplyBody.{ReplyBody}
 use Rattle.mt_types.specs.declared.reply.ReplyBody.TheVariants.{Held, Part}
-use Rattle.mt_api.specs.Answered.{CanBeSent, Gives, Shows, used}
-use Rattle.mt_api.specs.Steps.{AreHeld, EndsWith, IsHeld, Keeps, Replies, Settles}
+use Rattle.mt_api.specs.Answered.{CanBeSent, EndsBody, Gives, Shows, used}
+use Rattle.mt_api.specs.Steps.{AreHeld, EndsWith, IsHeld, IsSettled, Keeps, Replies, Settles}
 use Rattle.mt_api.specs.declared.answered.Answered.{Answered}
 use Rattle.mt_api.specs.declared.answered.Answered.TheVariants as answered
 
@@ -89,6 +92,28 @@ held_replied answered.Memory said held is = tt
 pub held_ended : (result answer : Answered) (engine : EngineState) (run : RunState) (engine' : EngineState) → EndsWith result answer engine run engine' → AreHeld answer → AreHeld result
 held_ended result answer engine run engine' (inl e) held = subst AreHeld (sym e.0) held
 held_ended result answer engine run engine' (inr e) held = subst AreHeld (sym e.0) tt
+
+pub settled_replied : (result : Answered) (said : Reply Body) → Replies result said → IsSettled result
+settled_replied (answered.Replied reply) said is = tt
+settled_replied (answered.Unfinished e) said is = is
+settled_replied answered.SourceFault said is = is
+settled_replied answered.Disk said is = tt
+settled_replied answered.Memory said is = tt
+
+pub settled_ended : (result answer : Answered) (engine : EngineState) (run : RunState) (engine' : EngineState) → EndsWith result answer engine run engine' → IsSettled answer → IsSettled result
+settled_ended result answer engine run engine' (inl e) settled = subst IsSettled (sym e.0) settled
+settled_ended result answer engine run engine' (inr e) settled = subst IsSettled (sym e.0) tt
+
+-- what is settled behind a whole body
+pub settled_over : (result : Answered) (stage : Stage) → IsSettled result → stage ≡ at.Over ending.Whole → EndsBody result stage
+settled_over (answered.Replied reply) stage settled over = over
+settled_over (answered.Unfinished e) stage settled over = absurd settled
+settled_over answered.SourceFault stage settled over = tt
+settled_over answered.Disk stage settled over = tt
+settled_over answered.Memory stage settled over = tt
+
+pub settled_not : (result : Answered) → IsSettled result → result ≡ answered.SourceFault → ⊥
+settled_not result settled is = subst IsSettled is settled
 
 -- no reply is a fault of the disk
 pub not_disk : (result : Answered) (said : Reply Body) → Replies result said → result ≢ answered.Disk

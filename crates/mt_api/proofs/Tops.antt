@@ -60,21 +60,21 @@ whole_said s s' (Some x) left' after bytes all over =
     (all, ends.0, ends.1)
 
 -- what its steps do is what is promised
-pub goes_answers : (result : Answered) (login : List ℕ) (asked : Asked) (engine : EngineState) (base : State Bytes) (h : History) (s s' : BodyState) (left left' : Option (List ℕ)) (seen' : Option Files) (engine' : EngineState) (k : History)
+pub goes_answers : (result : Answered) (asked : Asked) (engine : EngineState) (base : State Bytes) (h : History) (s s' : BodyState) (left left' : Option (List ℕ)) (seen' : Option Files) (engine' : EngineState) (k : History)
     → asked.body ≡ said s left → after_body s' left' ≡ after_body s left → Goes result asked engine base h (body_left s left) s'.stage seen' engine' k → Answers result asked engine base h left' seen' engine' k
-goes_answers (answered.Replied reply) login asked engine base h s s' left left' seen' engine' k body after goes =
+goes_answers (answered.Replied reply) asked engine base h s s' left left' seen' engine' k body after goes =
     (goes.0, subst (λ (o : Option Told). IfSome o (λ t. t.body ≡ goes.0)) (sym body) (all_said s left goes.0 goes.1), goes.2)
-goes_answers (answered.Unfinished e) login asked engine base h s s' left left' seen' engine' k body after goes =
+goes_answers (answered.Unfinished e) asked engine base h s s' left left' seen' engine' k body after goes =
     (goes.0, (goes.1.0, subst (λ (o : Option Told). IfSome o (λ t. t.body ≡ goes.1.0)) (sym body) (all_said s left goes.1.0 goes.1.1), goes.1.2))
-goes_answers answered.SourceFault login asked engine base h s s' left left' seen' engine' k body after goes =
+goes_answers answered.SourceFault asked engine base h s s' left left' seen' engine' k body after goes =
     (goes.0, (goes.1.0, subst (λ (o : Option Told). IfSome o (λ t. IsPrefixOf goes.1.0 t.body)) (sym body) (front_said s left goes.1.0 goes.1.1), goes.1.2))
-goes_answers answered.Disk login asked engine base h s s' left left' seen' engine' k body after goes =
+goes_answers answered.Disk asked engine base h s s' left left' seen' engine' k body after goes =
     (goes.0, ⊎_elim (λ at. inl at) (λ may. inr (record {
       bytes = may.0;
       whole = subst (λ (o : Option Told). IfSome o (λ t. (t.body ≡ may.0) × (t.ending ≡ ending.Whole) × (left' ≡ Some t.rest))) (sym body) (whole_said s s' left left' after may.0 may.1 may.2);
       history = may.3;
     })) goes.1)
-goes_answers answered.Memory login asked engine base h s s' left left' seen' engine' k body after goes = goes
+goes_answers answered.Memory asked engine base h s s' left left' seen' engine' k body after goes = goes
 
 -- an engine that goes on has a history
 goes_current : (result : Answered) (asked : Asked) (engine : EngineState) (base : State Bytes) (h : History) (left : Option (List ℕ)) (stage' : Stage) (seen' : Option Files) (engine' : EngineState) (k : History)

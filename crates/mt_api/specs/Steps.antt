@@ -140,6 +140,14 @@ Replies answered.SourceFault said = ⊥
 Replies answered.Disk said = ⊥
 Replies answered.Memory said = Unit {0}
 
+-- the body was whole before: it is answered, or the disk failed, or memory was wanting
+abbrev pub IsSettled : Answered → Type 0
+IsSettled (answered.Replied reply) = Unit {0}
+IsSettled (answered.Unfinished e) = ⊥
+IsSettled answered.SourceFault = ⊥
+IsSettled answered.Disk = Unit {0}
+IsSettled answered.Memory = Unit {0}
+
 -- a run is ended and this is answered, or the disk failed
 abbrev pub EndsWith : Answered → Answered → EngineState → RunState → EngineState → Type 0
 EndsWith result answer engine run engine' = ((result ≡ answer) × (engine' ≡ with_run engine run)) ⊎ ((result ≡ answered.Disk) × (engine' ≡ closed engine))

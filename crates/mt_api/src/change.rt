@@ -3,7 +3,7 @@ ghost use Rattle.std.specs.Prelude.{◌≡◌, ◌≢◌, ◌≤◌, ℕ, List, 
 ghost use Rattle.mt_answer.specs.Answer as words;
 ghost use Rattle.mt_answer.specs.Judging.{len_of, md5_of};
 ghost use Rattle.mt_api.specs.Answered.{Asked, answer_at, used};
-ghost use Rattle.mt_api.specs.Steps.{AreHeld, Adds, IsReady, Keeps, Settles, call_of};
+ghost use Rattle.mt_api.specs.Steps.{AreHeld, Adds, IsReady, IsSettled, Keeps, Settles, call_of};
 ghost use Rattle.mt_base.specs.Counts.{NeverFell, Rose};
 ghost use Rattle.mt_disk.specs.CrashModel.{LeavesOnly};
 ghost use Rattle.mt_engine.specs.Current.{IsBetween};
@@ -98,6 +98,7 @@ pub(crate) fn add<D: Disk>(
         (k : History) × Settles result (answer_at asked engine.old (replay base h) bytes) (used engine.old) base h (D.seen disk.new) engine.new k
         × LeavesOnly D.moment D.left_since disk.old disk.new (IsBetween base h k) }
     ensures held { AreHeld result }
+    ensures settled { IsSettled result }
     ensures keeps { Keeps result engine.old engine.new }
     ensures stands { Stands D.seen D.may_leave disk.new engine.new.log }
     ensures told { engine.new.log.closed ≡ false → is_some (D.seen disk.new) ≡ is_some (D.seen disk.old) }

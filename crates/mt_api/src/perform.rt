@@ -5,7 +5,7 @@ ghost use Rattle.md5.specs.Md5.{md5};
 ghost use Rattle.mt_answer.specs.Judging.{len_of, md5_of};
 ghost use Rattle.mt_answer.specs.Answer as words;
 ghost use Rattle.mt_api.specs.Answered.{Asked, CanBeSent, EndsBody, answer_at, used};
-ghost use Rattle.mt_api.specs.Steps.{Goes, IsPlain, Keeps, Replies, Settles, call_of, refusal};
+ghost use Rattle.mt_api.specs.Steps.{Goes, IsPlain, IsSettled, Keeps, Replies, Settles, call_of, refusal};
 ghost use Rattle.mt_base.specs.Counts.{NeverFell, Rose};
 ghost use Rattle.mt_disk.specs.CrashModel.{LeavesOnly};
 ghost use Rattle.mt_engine.specs.Current.{IsBetween, IsCurrent, Serves};
@@ -27,6 +27,7 @@ use mt_base::LAST_MOMENT;
 use mt_disk::Disk;
 use mt_edge::Source;
 use mt_engine::Engine;
+use mt_error::Refused;
 use mt_http::BodyStream;
 use mt_types::Body;
 use std::alloc::{AllocError, Global};
@@ -40,8 +41,8 @@ const NO_BODY: Body = Body {
 
 // Answers a call that changes nothing and isn't refused.
 fn look(alloc: Global, engine: &Engine, call: &Call) -> Answered
-    requires moment { call.now.stamp.moment ≤ LAST_MOMENT }
-    ensures replies { Replies result (words.reply_to len_of md5_of call.now.stamp engine.now.state.count engine.now.state.rows call.now.conditions call.now.request.doing NO_BODY.md5) }
+    requires { call.now.stamp.moment ≤ LAST_MOMENT }
+    ensures { Replies result (words.reply_to len_of md5_of call.now.stamp engine.now.state.count engine.now.state.rows call.now.conditions call.now.request.doing NO_BODY.md5) }
 {
     match reply_at(alloc, engine, call, call.stamp.position, &NO_BODY.md5) {
         Ok(reply) => Answered::Replied(reply),
@@ -62,6 +63,7 @@ fn perform<D: Disk>(alloc: Global, engine: &mut Engine, disk: &mut D, call: Call
         (k : History) × Settles result (answer_at asked engine.old (replay base h) bytes) (used engine.old) base h (D.seen disk.new) engine.new k
         × LeavesOnly D.moment D.left_since disk.old disk.new (IsBetween base h k) }
     ensures sends { CanBeSent result (D.seen disk.new) engine.new }
+    ensures settled { IsSettled result }
     ensures keeps { Keeps result engine.old engine.new }
     ensures stands { Stands D.seen D.may_leave disk.new engine.new.log }
     ensures told { engine.new.log.closed ≡ false → is_some (D.seen disk.new) ≡ is_some (D.seen disk.old) }
@@ -73,6 +75,16 @@ fn perform<D: Disk>(alloc: Global, engine: &mut Engine, disk: &mut D, call: Call
     }
     let run = engine.begin_run(disk);
     add(alloc, engine, disk, run, call, NO_BODY)
+}
+
+// Why a call is refused whose body was read, by its digest where that is wanted.
+fn refusal_by(engine: &Engine, call: &Call, digest: Option<[u8; 16]>) -> Option<Refused>
+    ensures { result ≡ refusal engine.now call.now digest }
+{
+    match digest {
+        Some(digest) => refusal_of(&call.request, engine.tree(), &call.conditions, Some(&digest)),
+        None => refusal_of(&call.request, engine.tree(), &call.conditions, None),
+    }
 }
 
 // Answers a call whose body was read and isn't stored, by its digest where that is wanted.
@@ -94,13 +106,14 @@ fn settle<D: Disk>(
         (k : History) × Settles result (answer_at asked engine.old (replay base h) bytes) (used engine.old) base h (D.seen disk.new) engine.new k
         × LeavesOnly D.moment D.left_since disk.old disk.new (IsBetween base h k) }
     ensures sends { CanBeSent result (D.seen disk.new) engine.new }
+    ensures settled { IsSettled result }
     ensures keeps { Keeps result engine.old engine.new }
     ensures stands { Stands D.seen D.may_leave disk.new engine.new.log }
     ensures told { engine.new.log.closed ≡ false → is_some (D.seen disk.new) ≡ is_some (D.seen disk.old) }
     ensures disk { result ≡ Answered.Disk → Rose (D.faults disk.old) (D.faults disk.new) }
     ensures faults { NeverFell (D.faults disk.old) (D.faults disk.new) }
 {
-    match refusal_of(&call.request, engine.tree(), &call.conditions, digest.as_ref()) {
+    match refusal_by(engine, &call, digest) {
         Some(why) => refuse(alloc, call.stamp, why),
         None => perform(alloc, engine, disk, call),
     }

@@ -2,7 +2,7 @@
 ghost use Rattle.std.specs.Prelude.{◌≡◌, ◌≤◌, ℕ, List, Option, Some, false, IsTrue, is_some};
 ghost use Rattle.md5.specs.Md5.{Holds};
 ghost use Rattle.mt_api.specs.Answered.{Asked, EndsBody, answer_at, used};
-ghost use Rattle.mt_api.specs.Steps.{AreHeld, Goes, HasNoRoom, IsAll, IsWhole, Keeps, Settles, StoresBody, call_of, refusal, without_room};
+ghost use Rattle.mt_api.specs.Steps.{AreHeld, Goes, HasNoRoom, IsAll, IsSettled, IsWhole, Keeps, Settles, StoresBody, call_of, refusal, without_room};
 ghost use Rattle.mt_base.specs.Counts.{NeverFell, Rose};
 ghost use Rattle.mt_disk.specs.CrashModel.{LeavesOnly};
 ghost use Rattle.mt_edge.specs.Stream.{LeftAfter};
@@ -65,6 +65,7 @@ fn decide<D: Disk>(
         (k : History) × Settles result (answer_at asked engine.old (replay base h) bytes) (used engine.old) base h (D.seen disk.new) engine.new k
         × LeavesOnly D.moment D.left_since disk.old disk.new (IsBetween base h k) }
     ensures held { AreHeld result }
+    ensures settled { IsSettled result }
     ensures keeps { Keeps result engine.old engine.new }
     ensures stands { Stands D.seen D.may_leave disk.new engine.new.log }
     ensures told { engine.new.log.closed ≡ false → is_some (D.seen disk.new) ≡ is_some (D.seen disk.old) }

@@ -1,7 +1,7 @@
 //! The end of a run without a command, and refusals.
 ghost use Rattle.std.specs.Prelude.{◌≡◌, ◌≢◌, ◌⊎◌, ◌≤◌, ◌+◌, ℕ, List, [], false, true, is_some};
 ghost use Rattle.mt_api.specs.Answered.{used};
-ghost use Rattle.mt_api.specs.Steps.{AreHeld, EndsWith, Keeps, Settles, Replies};
+ghost use Rattle.mt_api.specs.Steps.{AreHeld, EndsWith, IsSettled, Keeps, Replies, Settles};
 ghost use Rattle.mt_base.specs.Counts.{NeverFell, Rose};
 ghost use Rattle.mt_disk.specs.CrashModel.{LeavesOnly};
 ghost use Rattle.mt_engine.specs.Current.{IsBetween, IsCurrent, IsWriting};
@@ -77,6 +77,7 @@ pub(crate) fn refuse_in<D: Disk>(
     ensures any_moment { (base : State Bytes) (h : History) (qs : List (List ℕ)) → IsWriting (D.seen disk.old) engine.old run base h qs →
         LeavesOnly D.moment D.left_since disk.old disk.new (HasHistory base h) }
     ensures held { AreHeld result }
+    ensures settled { IsSettled result }
     ensures keeps { Keeps result engine.old engine.new }
     ensures stands { Stands D.seen D.may_leave disk.new engine.new.log }
     ensures told { engine.new.log.closed ≡ false → is_some (D.seen disk.new) ≡ is_some (D.seen disk.old) }

@@ -1,13 +1,16 @@
 //! The answer to a request.
-ghost use Rattle.std.specs.Prelude.{◌≡◌, ◌≢◌, ◌≤◌, false, length, is_some, IfSome};
+ghost use Rattle.std.specs.Prelude.{◌≡◌, ◌≢◌, ◌≤◌, false, length, is_some, IfOk, IfSome, Option};
 ghost use Rattle.mt_api.specs.Answered.{Answers, CanBeSent, EndsBody, Hears, said};
+ghost use Rattle.mt_api.specs.Steps.{call_of};
 ghost use Rattle.mt_base.specs.Counts.{NeverFell, Rose};
 ghost use Rattle.mt_disk.specs.CrashModel.{LeavesOnly};
 ghost use Rattle.mt_engine.specs.Current.{IsBetween, IsCurrent, Serves};
 ghost use Rattle.mt_engine.specs.History.{Bytes, History};
+ghost use Rattle.mt_http.specs.Body.{Told};
 ghost use Rattle.mt_http.specs.BodyReading.{after_body};
 ghost use Rattle.mt_log.specs.LogState.{Stands};
 ghost use Rattle.mt_model.specs.State.{State};
+ghost use Rattle.mt_request.specs.Laws.{FitsDoing};
 
 use crate::answered::Answered;
 use crate::call::Call;
@@ -24,6 +27,34 @@ use mt_reply::Stamp;
 use mt_request::laws::asks_within_limits;
 use mt_request::request_of;
 use std::alloc::{AllocError, Global};
+
+// What a head asks for.
+fn read_call(
+    alloc: Global,
+    login: &str,
+    engine: &Engine,
+    head: &Head,
+    now: u64,
+) -> Result<Call, AllocError>
+    requires { length head.now.fields ≤ 100 }
+    ensures call { (body : Option Told) → IfOk result (λ call. call ≡ call_of (record { login = login.now; head = head.now; body = body; moment = now }) engine.now) }
+    ensures moment { IfOk result (λ call. call.stamp.moment ≡ now) }
+    ensures fits { IfOk result (λ call. FitsDoing call.request.doing) }
+{
+    let conditions = Conditions::read(alloc, &head.fields)?;
+    let request = request_of(alloc, login, head)?;
+    asks_within_limits();
+    let stamp = Stamp {
+        position: engine.position(),
+        moment: now,
+        closes: closes(head.minor, head.fields.as_slice()),
+    };
+    Ok(Call {
+        request,
+        conditions,
+        stamp,
+    })
+}
 
 /// Answers a request at a moment. Its body is read to its end first, and stored where only its digest or the want of room could
 /// still refuse it; the command that it asks for is on the disk before the reply is given out. The reply is to be sent before the
@@ -66,27 +97,11 @@ pub fn answer<D: Disk, S: Source>(
     ensures stays { S.source_stays body.old.source.now body.new.source.now }
     ensures after { after_body body.new.framer (S.left body.new.source.now) ≡ after_body body.old.framer (S.left body.old.source.now) }
 {
-    let conditions = match Conditions::read(alloc, &head.fields) {
-        Ok(conditions) => conditions,
+    let call = match read_call(alloc, login, engine, head, now) {
+        Ok(call) => call,
         Err(AllocError) => return Answered::Memory,
     };
-    let request = match request_of(alloc, login, head) {
-        Ok(request) => request,
-        Err(AllocError) => return Answered::Memory,
-    };
-    asks_within_limits();
-    let stamp = Stamp {
-        position: engine.position(),
-        moment: now,
-        closes: closes(head.minor, head.fields.as_slice()),
-    };
-    let is_stored = stores_body(&request, engine.tree(), &conditions);
-    let call = Call {
-        request,
-        conditions,
-        stamp,
-    };
-    if is_stored {
+    if stores_body(&call.request, engine.tree(), &call.conditions) {
         put(alloc, engine, disk, call, body)
     } else {
         answer_plain(alloc, engine, disk, call, body)

@@ -14,7 +14,7 @@ use Rattle.mt_reply.specs.Replies.{error_reply}
 use Rattle.mt_api.specs.Steps.{IsHeld, Replies}
 use Rattle.mt_api.specs.declared.answered.Answered.TheVariants as answered
 use Rattle.mt_api.proofs.Adds.{brings_stored, gives_added, held_reply, keeps_accepted, leaves_added, reached_none, reaches_added, settles_full}
-use Rattle.mt_api.proofs.Ends.{keeps_ended, leaves_at, leaves_same, memory_settles}
+use Rattle.mt_api.proofs.Ends.{keeps_ended, settled_ended, settled_replied, leaves_at, leaves_same, memory_settles}
 use Rattle.mt_api.proofs.change.add.Goals as goal
 
 -- want of memory for the reply
@@ -108,3 +108,12 @@ returns-in-Refused-clause-settles g c base h qs asked bytes e ready =
     let reach = c.in-Refused.ensures.any_moment base h qs ready.writing brought in
     let same = reached_none (accepted.Refused c.in-Refused.field-0) engine c.args.run command (command_with (bytes_of qs) command) h reach.0 (λ x. cc) (λ x. cc) reach.1 in
     (h, (refl, λ is_open. c.in-Refused.ensures.accepts base h qs ready.writing brought), leaves_at d.moment d.left_since c.args.disk.now c.accept.new.disk base h reach.0 h same reach.2)
+
+pub returns-in-Err-clause-settled : goal.returns-in-Err-clause-settled
+returns-in-Err-clause-settled g c = settled_ended c.end_with.result answered.Memory c.args.engine.now c.args.run c.end_with.new.engine c.end_with.ensures.ends tt
+
+pub returns-in-None-clause-settled : goal.returns-in-None-clause-settled
+returns-in-None-clause-settled g c = settled_ended c.end_with-in-None.result answered.Memory c.args.engine.now c.args.run c.end_with-in-None.new.engine c.end_with-in-None.ensures.ends tt
+
+pub returns-in-Full-clause-settled : goal.returns-in-Full-clause-settled
+returns-in-Full-clause-settled g c = settled_replied c.refuse.result (error_reply c.args.call.stamp c.plain.result) c.refuse.ensures

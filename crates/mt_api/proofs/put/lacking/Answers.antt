@@ -10,7 +10,7 @@ use Rattle.mt_reply.specs.Replies.{error_reply}
 use Rattle.mt_api.specs.Answered.{used}
 use Rattle.mt_api.specs.Steps.{Settles, refusal, without_room}
 use Rattle.mt_api.specs.declared.answered.Answered.TheVariants as answered
-use Rattle.mt_api.proofs.Ends.{leaves_same}
+use Rattle.mt_api.proofs.Ends.{leaves_same, settled_not, settled_over}
 use Rattle.mt_api.proofs.Lefts.{all_after, front_after}
 use Rattle.mt_api.proofs.Puts.{ended_goes, lacking_full, lacking_next, settles_goes, stays_left, without_room_refused}
 use Rattle.mt_api.proofs.put.lacking.Goals as goal
@@ -59,8 +59,8 @@ returns-in-SourceFault-clause-goes g c base h qs asked left bytes e w holds took
     (h, ended_goes asked engine base h left c.digest_body.new.body.framer.stage (d.seen end.new.disk) total end.result answered.SourceFault c.args.run engine end.new.engine front end.ensures.ends (end.ensures.current base h qs w.writing) (λ x. cc) next,
     leaves_same d.moment d.left_since c.args.disk.now end.new.disk base h (end.ensures.any_moment base h qs w.writing))
 
-pub returns-in-Endless-clause-goes : goal.returns-in-Endless-clause-goes
-returns-in-Endless-clause-goes g c base h qs asked left bytes e w holds took =
+pub returns-clause-goes : goal.returns-clause-goes
+returns-clause-goes g c base h qs asked left bytes e w holds took =
     let d = g.D.Disk in
     let engine = c.args.engine.now in
     let end = c.end_with-in-Endless in
@@ -70,3 +70,9 @@ returns-in-Endless-clause-goes g c base h qs asked left bytes e w holds took =
         ∙ ap (λ (n : ℕ). used engine + n) (sym (stays_left engine base h qs (holding_in (d.seen c.args.disk.now) engine base h c.args.run qs w.writing) asked c.args.call e c.requires.stores total)) in
     (h, ended_goes asked engine base h left c.digest_body.new.body.framer.stage (d.seen end.new.disk) total end.result answered.Memory c.args.run engine end.new.engine tt end.ensures.ends (end.ensures.current base h qs w.writing) (λ x. cc) next,
     leaves_same d.moment d.left_since c.args.disk.now end.new.disk base h (end.ensures.any_moment base h qs w.writing))
+
+pub returns-in-Whole-clause-over : goal.returns-in-Whole-clause-over
+returns-in-Whole-clause-over g c = settled_over c.refuse_in.result c.digest_body.new.body.framer.stage c.refuse_in.ensures.settled c.in-Whole.ensures.over
+
+pub returns-in-Whole-clause-failed : goal.returns-in-Whole-clause-failed
+returns-in-Whole-clause-failed g c is = absurd (settled_not c.refuse_in.result c.refuse_in.ensures.settled is)

@@ -142,3 +142,9 @@ returns-in-Memory-clause-goes g c base h asked i e =
 
 pub returns-in-Memory-clause-keeps : goal.returns-in-Memory-clause-keeps
 returns-in-Memory-clause-keeps g c = subst (λ (x : EngineState). Keeps answered.Memory x c.store_body.new.self) (c.in-Memory.ensures.still_open (λ x. cc)) (keeps_same answered.Memory c.store_body.new.self (ap (λ (x : EngineState). x.log.closed) (c.in-Memory.ensures.still_open (λ x. cc)) ∙ c.requires.is_open))
+
+pub returns-in-Memory-clause-stands : goal.returns-in-Memory-clause-stands
+returns-in-Memory-clause-stands g c =
+    let d = g.D.Disk in
+    subst (λ x. Stands d.seen d.may_leave x c.store_body.new.self.log) (sym (c.in-Memory.ensures.memory refl).0)
+    (subst (λ (x : EngineState). Stands d.seen d.may_leave c.args.disk.now x.log) (sym (c.in-Memory.ensures.still_open (λ x. cc))) c.requires.stands)

@@ -2,7 +2,7 @@ use Rattle.std.proofs.Common.{◌≡◌, ◌+◌, ℕ, sym, ap, ◌∙◌}
 use Rattle.mt_engine.proofs.Held.{holding_in}
 use Rattle.mt_api.specs.Answered.{used}
 use Rattle.mt_api.specs.declared.answered.Answered.TheVariants as answered
-use Rattle.mt_api.proofs.Ends.{leaves_same}
+use Rattle.mt_api.proofs.Ends.{leaves_same, settled_not, settled_over}
 use Rattle.mt_api.proofs.Lefts.{all_front}
 use Rattle.mt_api.proofs.Puts.{ended_goes, settles_goes, stays_left, whole_next}
 use Rattle.mt_api.proofs.put.stored.Goals as goal
@@ -35,3 +35,9 @@ returns-in-SourceFault-clause-goes g c base h qs asked left bytes e w all =
 
 pub returns-in-Endless-clause-goes : goal.returns-in-Endless-clause-goes
 returns-in-Endless-clause-goes g c base h qs asked left bytes e w all = absurd (c.end_body.ensures.ends c.in-Endless.is)
+
+pub returns-in-Whole-clause-over : goal.returns-in-Whole-clause-over
+returns-in-Whole-clause-over g c = settled_over c.decide.result c.end_body.new.body.framer.stage c.decide.ensures.settled c.in-Whole.ensures.over
+
+pub returns-in-Whole-clause-failed : goal.returns-in-Whole-clause-failed
+returns-in-Whole-clause-failed g c is = absurd (settled_not c.decide.result c.decide.ensures.settled is)
