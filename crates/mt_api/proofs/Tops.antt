@@ -28,7 +28,7 @@ front_said : (s : BodyState) (left : Option (List ℕ)) (bytes : Bytes) → IsFr
 front_said s None bytes front = tt
 front_said s (Some x) bytes front = front
 
-left_over : (e f : Ending) (rest : List ℕ) (left' : Option (List ℕ)) → option_map (λ (r : List ℕ). (e, r)) left' ≡ Some (f, rest) → (f ≡ e) × (left' ≡ Some rest)
+left_over : (e f : Ending) (rest : List ℕ) (left' : Option (List ℕ)) → option_map {U = Ending × List ℕ} (λ (r : List ℕ). (e, r)) left' ≡ Some (f, rest) → (f ≡ e) × (left' ≡ Some rest)
 left_over e f rest None is = absurd (none-some _ is)
 left_over e f rest (Some r) is =
     let same = same_Some _ _ is in
