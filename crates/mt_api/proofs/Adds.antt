@@ -1,14 +1,12 @@
 -- A command that ends a run, and the answer to it.
-use Rattle.std.proofs.Common.{◌≡◌, ◌≢◌, ◌⊎◌, ◌≤◌, ◌<◌, ℕ, ◌+◌, Bool, false, true, inl, inr, ⊎_elim, List, [], ◌∷◌, ◌++◌, length, Option, Some, None, refl, sym, ap, ◌∙◌, subst, append-nil, arith, true≢false}
-use Rattle.std.specs.Prelude.{is_some}
+use Rattle.std.proofs.Common.{◌≡◌, ◌≢◌, ◌⊎◌, ◌≤◌, ◌<◌, ℕ, ◌+◌, Bool, false, true, inl, inr, ⊎_elim, List, [], ◌∷◌, ◌++◌, length, Option, Some, None, refl, sym, ap, ◌∙◌, subst, arith, true≢false}
 use Rattle.std.proofs.lemmas.Option.{same_Some}
 use Rattle.md5.specs.Md5.{md5}
-use Rattle.mt_answer.specs.Answer.{Answer, answer_of, command_of, growth, link_reply, make_command, refuse, reply_to, stamp_of}
+use Rattle.mt_answer.specs.Answer.{Answer, command_of, growth, link_reply, make_command, reply_to, stamp_of}
 use Rattle.mt_answer.specs.Judging.{is_put_object, len_of, md5_of}
 use Rattle.mt_answer.specs.Laws.{IsDigested, body_len}
 use Rattle.mt_answer.proofs.Exits.{added_read, full_command_read}
-use Rattle.mt_base.specs.Lists.{IsPrefixOf}
-use Rattle.mt_body.specs.Stored.{IsStored, bytes_of, pieces_size, pieces_that_fit}
+use Rattle.mt_body.specs.Stored.{IsStored, bytes_of, pieces_that_fit}
 use Rattle.mt_body.proofs.Keeping.{length-bytes_of}
 use Rattle.mt_codec.specs.Pieces.{blank_body, spelled_size}
 use Rattle.mt_codec.specs.Spelling.{spelling}
@@ -17,16 +15,15 @@ use Rattle.mt_cond.specs.Conditions.{conditions_of}
 use Rattle.mt_cond.specs.declared.conditions.Conditions.{Conditions}
 use Rattle.mt_disk.specs.Files.{Files}
 use Rattle.mt_disk.specs.CrashModel.{LeavesOnly}
-use Rattle.mt_engine.specs.Accepting.{Accepts, Decided, Reaches, Takes, with_command, with_run}
-use Rattle.mt_engine.specs.Current.{EngineState, IsBetween, IsCurrent, IsWriting}
+use Rattle.mt_engine.specs.Accepting.{Decided, Reaches, Takes, with_command, with_run}
+use Rattle.mt_engine.specs.Current.{EngineState, IsBetween, IsCurrent}
 use Rattle.mt_engine.specs.History.{Bytes, History}
 use Rattle.mt_engine.specs.declared.engine.Accepted.{Accepted}
 use Rattle.mt_engine.specs.declared.engine.Accepted.TheVariants as accepted
-use Rattle.mt_engine.proofs.Ends.{all_of, front_of}
+use Rattle.mt_engine.proofs.Ends.{front_of}
 use Rattle.mt_engine.proofs.Held.{holding_in}
 use Rattle.mt_error.specs.Refusals.{plain}
 use Rattle.mt_error.specs.declared.code.ErrorCode.TheVariants as error
-use Rattle.mt_log.specs.LogState.{told}
 use Rattle.mt_log.specs.RunState.{RunState, size_with_run}
 use Rattle.mt_model.specs.Bodies.{OfCommand, state_with}
 use Rattle.mt_model.specs.CommandStep.{replay}
@@ -152,10 +149,10 @@ module _ (seen : Option Files) (engine : EngineState) (run : RunState) (base : S
   gives_added reply seen' engine' says decided current =
       let is_added = added decided.0 in
       let says' : reply ≡ reply_to len_of md5_of (stamp_of asked.head (engine.state.count + 1) asked.moment) engine.state.count engine.state.rows (conditions_of asked.head.fields) (request_of asked.login asked.head).doing body.md5 =
-          subst (λ (x : Call). reply ≡ reply_to len_of md5_of (record x.stamp { position = engine.state.count + 1 }) engine.state.count engine.state.rows x.conditions x.request.doing body.md5) e says in
+      subst (λ (x : Call). reply ≡ reply_to len_of md5_of (record x.stamp { position = engine.state.count + 1 }) engine.state.count engine.state.rows x.conditions x.request.doing body.md5) e says in
       let says'' : reply ≡ reply_of =
-          says' ∙ sum_free (stamp_of asked.head (engine.state.count + 1) asked.moment) engine.state.count engine.state.rows (conditions_of asked.head.fields) (request_of asked.login asked.head).doing body.md5 (md5 bytes)
-          (λ put. (w.stored put).0.digest ∙ ap md5 (w.stored put).1) in
+      says' ∙ sum_free (stamp_of asked.head (engine.state.count + 1) asked.moment) engine.state.count engine.state.rows (conditions_of asked.head.fields) (request_of asked.login asked.head).doing body.md5 (md5 bytes)
+      (λ put. (w.stored put).0.digest ∙ ap md5 (w.stored put).1) in
       let held = held_reply (stamp_of asked.head (engine.state.count + 1) asked.moment) engine.state.count engine.state.rows (conditions_of asked.head.fields) (request_of asked.login asked.head).doing (md5 bytes) body asked.moment command is in
       record {
         history = ap (λ (a : Answer Bytes). h ++ a.added) (sym is_added);

@@ -1,22 +1,18 @@
 -- A run that is ended without a command, and the answer to it.
-use Rattle.std.proofs.Common.{◌≡◌, ◌≢◌, ◌⊎◌, ℕ, ◌+◌, false, true, inl, inr, List, [], ◌∷◌, ◌++◌, Option, Some, None, refl, sym, ap, ◌∙◌, subst, append_assoc, append-nil, arith}
-use Rattle.std.specs.Option.{ForSome}
+use Rattle.std.proofs.Common.{◌≡◌, ◌≢◌, ℕ, ◌+◌, false, inl, inr, [], ◌++◌, Option, refl, sym, ap, ◌∙◌, subst, append_assoc, append-nil}
 use Rattle.mt_answer.specs.Answer.{Answer}
 use Rattle.mt_base.specs.Lists.{IsPrefixOf}
 use Rattle.mt_body.specs.Stored.{bytes_of}
 use Rattle.mt_disk.specs.Files.{Files}
 use Rattle.mt_disk.specs.CrashModel.{LeavesOnly}
 use Rattle.mt_disk.proofs.Moments.{joins, weakens}
-use Rattle.mt_engine.specs.Accepting.{closed, with_run}
 use Rattle.mt_engine.specs.Current.{EngineState, IsBetween, IsCurrent}
 use Rattle.mt_engine.specs.History.{Bytes, HasHistory, History}
-use Rattle.mt_engine.specs.declared.publish.RunEnd.{RunEnd}
 use Rattle.mt_engine.proofs.Ends.{all_of}
 use Rattle.mt_error.specs.declared.refused.Refused.{Refused}
 use Rattle.mt_http.specs.declared.message.Ending.TheVariants as ending
 use Rattle.mt_http.specs.declared.stage.Stage.{Stage}
 use Rattle.mt_http.specs.declared.stage.Stage.TheVariants as at
-use Rattle.mt_log.specs.LogState.{told}
 use Rattle.mt_log.specs.RunState.{RunState}
 use Rattle.mt_model.specs.State.{State}
 use Rattle.mt_reply.specs.Replies.{error_reply}
@@ -26,7 +22,7 @@ use Rattle.mt_types.specs.declared.body.Body.{Body}
 use Rattle.mt_types.specs.declared.reply.Reply.{Reply}
 use Rattle.mt_types.specs.declared.reply.ReplyBody.{ReplyBody}
 use Rattle.mt_types.specs.declared.reply.ReplyBody.TheVariants.{Held, Part}
-use Rattle.mt_api.specs.Answered.{CanBeSent, EndsBody, Gives, Shows, used}
+use Rattle.mt_api.specs.Answered.{CanBeSent, EndsBody, Shows, used}
 use Rattle.mt_api.specs.Steps.{AreHeld, EndsWith, IsHeld, IsSettled, Keeps, Replies, Settles}
 use Rattle.mt_api.specs.declared.answered.Answered.{Answered}
 use Rattle.mt_api.specs.declared.answered.Answered.TheVariants as answered

@@ -1,10 +1,10 @@
 -- What was read of a body, and what was left of it.
 use Rattle.std.proofs.Common.{◌≡◌, ◌≢◌, ℕ, List, [], ◌++◌, Option, Some, None, refl, sym, ap, ◌∙◌, subst, append_assoc, append-nil}
-use Rattle.std.specs.Prelude.{IfSome, option_map}
+use Rattle.std.specs.Prelude.{option_map}
 use Rattle.mt_body.specs.Filling.{AtEnd}
 use Rattle.mt_edge.specs.Stream.{LeftAfter}
-use Rattle.mt_http.specs.Body.{BodyState, Told, told_from}
-use Rattle.mt_http.specs.BodyReading.{Finished, after_body, body_left}
+use Rattle.mt_http.specs.Body.{BodyState, Told}
+use Rattle.mt_http.specs.BodyReading.{Finished, after_body}
 use Rattle.mt_http.specs.declared.message.Ending.{Ending}
 use Rattle.mt_http.specs.declared.message.Ending.TheVariants as ending
 use Rattle.mt_http.specs.declared.stage.Stage.TheVariants as at

@@ -6,7 +6,7 @@ use Rattle.std.proofs.lemmas.Option.{same_Some}
 use Rattle.md5.specs.Md5.{md5}
 use Rattle.mt_answer.specs.Answer.{Answer, command_of, found_reply, link_reply, listing_reply, look_reply, range_reply, ranged_reply, reply_to}
 use Rattle.mt_answer.specs.Judging.{account_refusal, is_put_object, len_of, md5_of, refusal_of, stored_len}
-use Rattle.mt_answer.specs.Laws.{IsDigested, body_len}
+use Rattle.mt_answer.specs.Laws.{body_len}
 use Rattle.mt_answer.proofs.Exits.{shown_read}
 use Rattle.mt_answer.proofs.Order.{not_refused}
 use Rattle.mt_body.specs.Stored.{IsStored, bytes_of, pieces_size, pieces_that_fit}
@@ -31,12 +31,12 @@ use Rattle.mt_error.specs.Refusals.{plain}
 use Rattle.mt_error.specs.declared.code.ErrorCode.{ErrorCode}
 use Rattle.mt_error.specs.declared.refused.Refused.{Refused}
 use Rattle.mt_log.specs.LogImage.{Fit, payloads_of}
-use Rattle.mt_log.specs.LogState.{Stands, told}
+use Rattle.mt_log.specs.LogState.{Stands}
 use Rattle.mt_log.specs.RunState.{RunState}
 use Rattle.mt_log.proofs.Appended.{chosen_fit}
 use Rattle.mt_log.proofs.Standing.{stands_leave}
 use Rattle.mt_model.specs.CommandStep.{replay}
-use Rattle.mt_model.specs.Rows.{Rows, at, object_at, object_in}
+use Rattle.mt_model.specs.Rows.{at, object_at, object_in}
 use Rattle.mt_model.specs.State.{State}
 use Rattle.mt_model.proofs.Held.{state_weaker}
 use Rattle.mt_path.specs.AccountPath.{AccountPath}
@@ -44,7 +44,6 @@ use Rattle.mt_reply.specs.Replies.{error_reply}
 use Rattle.mt_reply.specs.declared.stamp.Stamp.{Stamp}
 use Rattle.mt_request.specs.Digest.{digest_refusal}
 use Rattle.mt_request.specs.Order.{first_of}
-use Rattle.mt_request.specs.Requests.{request_of}
 use Rattle.mt_request.specs.declared.query.Page.{Page}
 use Rattle.mt_request.specs.declared.request.Doing.{Doing}
 use Rattle.mt_request.specs.declared.request.Doing.TheVariants as doing
@@ -55,7 +54,7 @@ use Rattle.mt_types.specs.declared.object.Entry.{Entry}
 use Rattle.mt_types.specs.declared.object.Entry.TheVariants as entry
 use Rattle.mt_types.specs.declared.object.Object.{Object}
 use Rattle.mt_types.specs.declared.reply.Reply.{Reply}
-use Rattle.mt_api.specs.Answered.{Asked, CanBeSent, Gives, IsShown, Shows, answer_at, left_behind, used}
+use Rattle.mt_api.specs.Answered.{Asked, CanBeSent, IsShown, Shows, answer_at, left_behind, used}
 use Rattle.mt_api.specs.Steps.{IsPlain, IsReady, Replies, Settles, call_of, refusal}
 use Rattle.mt_api.specs.declared.answered.Answered.{Answered}
 use Rattle.mt_api.specs.declared.answered.Answered.TheVariants as answered
@@ -125,7 +124,7 @@ module _ (seen : Option Files) (engine : EngineState) (base : State Bytes) (h : 
       → Settles result (answer_at asked engine (replay base h) bytes) (used engine) base h seen engine h
   plain_refused result bytes r is says =
       let answer = refused_answer engine base h (payloads_of i.is_read.files) holds asked call e bytes r is
-          ∙ ap (λ (n : ℕ). record { reply = error_reply call.stamp r; added = []; grew = n }) (none_stays (length bytes)) in
+      ∙ ap (λ (n : ℕ). record { reply = error_reply call.stamp r; added = []; grew = n }) (none_stays (length bytes)) in
       subst (λ (a : Answer Bytes). Settles result a (used engine) base h seen engine h) (sym answer)
       (refused_settles call.stamp r (used engine) 0 base h seen result engine says (λ n. i) (omega arith))
 

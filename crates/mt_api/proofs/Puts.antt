@@ -1,22 +1,20 @@
 -- A put: its exits.
-use Rattle.std.proofs.Common.{◌≡◌, ◌≢◌, ◌⊎◌, ◌≤◌, ◌<◌, ℕ, ◌+◌, ◌*◌, ◌/◌, ◌-◌, Bool, false, true, ◌&&◌, inl, inr, ⊎_elim, List, [], ◌∷◌, ◌++◌, length, Option, Some, None, refl, sym, ap, ◌∙◌, subst, append-nil, arith, rules, length-append}
-use Rattle.std.specs.Prelude.{IfSome, if◌then◌else◌, is_some, nat_le, not, option_map}
+use Rattle.std.proofs.Common.{◌≡◌, ◌≢◌, ◌≤◌, ◌<◌, ℕ, ◌+◌, ◌*◌, ◌/◌, ◌-◌, Bool, false, true, ◌&&◌, inl, inr, ⊎_elim, List, [], ◌++◌, length, Option, Some, None, refl, sym, ap, ◌∙◌, subst, append-nil, arith, rules, length-append}
+use Rattle.std.specs.Prelude.{if◌then◌else◌, is_some, nat_le, not}
 use Rattle.std.proofs.lemmas.Bool.{le-leb, lt-leb}
 use Rattle.md5.specs.Md5.{md5}
-use Rattle.mt_answer.specs.Answer.{Answer, answer_of, command_of, refuse, stamp_of}
-use Rattle.mt_answer.specs.Judging.{is_put_object, len_of, refusal_of, stored_len, stores_body}
+use Rattle.mt_answer.specs.Answer.{command_of}
+use Rattle.mt_answer.specs.Judging.{is_put_object, len_of, refusal_of, stored_len}
 use Rattle.mt_answer.specs.Laws.{body_len}
 use Rattle.mt_answer.proofs.AnswersRead.{full_read, refused_read, storing_read}
 use Rattle.mt_base.specs.Lists.{IsPrefixOf}
-use Rattle.mt_body.specs.Stored.{IsStored, bytes_of, pieces_size, pieces_that_fit}
+use Rattle.mt_body.specs.Stored.{bytes_of, pieces_size, pieces_that_fit}
 use Rattle.mt_body.proofs.Keeping.{length-bytes_of}
 use Rattle.mt_cond.specs.Conditions.{conditions_of}
 use Rattle.mt_disk.specs.Files.{Files}
 use Rattle.mt_edge.specs.Stream.{LeftAfter}
-use Rattle.mt_engine.specs.Accepting.{closed, with_run}
-use Rattle.mt_engine.specs.Current.{EngineState, IsCurrent, IsWriting}
+use Rattle.mt_engine.specs.Current.{EngineState, IsCurrent}
 use Rattle.mt_engine.specs.History.{Bytes, History}
-use Rattle.mt_engine.proofs.Ends.{all_of}
 use Rattle.mt_engine.proofs.Held.{Holding}
 use Rattle.mt_error.specs.Refusals.{plain}
 use Rattle.mt_error.specs.declared.code.ErrorCode.TheVariants as error
@@ -34,8 +32,8 @@ use Rattle.mt_request.specs.Requests.{request_of}
 use Rattle.mt_request.specs.declared.request.Doing.{Doing}
 use Rattle.mt_request.specs.declared.request.Doing.TheVariants as doing
 use Rattle.mt_types.specs.declared.body.Body.{Body}
-use Rattle.mt_api.specs.Answered.{Asked, Gives, IsLeft, answer_at, left_behind, used}
-use Rattle.mt_api.specs.Steps.{Adds, EndsWith, Goes, HasNoRoom, IsAll, IsFront, IsPlain, IsReady, IsWhole, Settles, StoresBody, call_of, refusal, without_room}
+use Rattle.mt_api.specs.Answered.{Asked, answer_at, left_behind, used}
+use Rattle.mt_api.specs.Steps.{Adds, EndsWith, Goes, HasNoRoom, IsAll, IsFront, IsReady, IsWhole, Settles, StoresBody, call_of, refusal, without_room}
 use Rattle.mt_api.specs.declared.answered.Answered.{Answered}
 use Rattle.mt_api.specs.declared.answered.Answered.TheVariants as answered
 use Rattle.mt_api.specs.declared.call.Call.{Call}

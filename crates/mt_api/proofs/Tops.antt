@@ -1,7 +1,6 @@
 -- The answer to a request: from its steps to what is promised of it.
-use Rattle.std.proofs.Common.{◌≡◌, ◌≢◌, ◌⊎◌, ℕ, Bool, false, true, true≢false, inl, inr, ⊎_elim, List, [], ◌++◌, Option, Some, None, refl, sym, ap, ◌∙◌, subst}
+use Rattle.std.proofs.Common.{◌≡◌, ℕ, false, true, true≢false, inl, inr, ⊎_elim, List, Option, Some, None, refl, sym, ap, ◌∙◌, subst}
 use Rattle.std.specs.Prelude.{IfSome, is_some, option_map}
-use Rattle.std.specs.Option.{ForSome}
 use Rattle.std.proofs.lemmas.Option.{none-some, same_Some}
 use Rattle.mt_base.specs.Lists.{IsPrefixOf}
 use Rattle.mt_disk.specs.Files.{Files}
@@ -68,12 +67,14 @@ goes_answers (answered.Unfinished e) asked engine base h s s' left left' seen' e
     (goes.0, (goes.1.0, subst (λ (o : Option Told). IfSome o (λ t. t.body ≡ goes.1.0)) (sym body) (all_said s left goes.1.0 goes.1.1), goes.1.2))
 goes_answers answered.SourceFault asked engine base h s s' left left' seen' engine' k body after goes =
     (goes.0, (goes.1.0, subst (λ (o : Option Told). IfSome o (λ t. IsPrefixOf goes.1.0 t.body)) (sym body) (front_said s left goes.1.0 goes.1.1), goes.1.2))
-goes_answers answered.Disk asked engine base h s s' left left' seen' engine' k body after goes =
-    (goes.0, ⊎_elim (λ at. inl at) (λ may. inr (record {
-      bytes = may.0;
-      whole = subst (λ (o : Option Told). IfSome o (λ t. (t.body ≡ may.0) × (t.ending ≡ ending.Whole) × (left' ≡ Some t.rest))) (sym body) (whole_said s s' left left' after may.0 may.1 may.2);
-      history = may.3;
-    })) goes.1)
+goes_answers answered.Disk asked engine base h s s' left left' seen' engine' k body after goes = (
+  goes.0,
+  ⊎_elim (λ at. inl at) (λ may. inr (record {
+    bytes = may.0;
+    whole = subst (λ (o : Option Told). IfSome o (λ t. (t.body ≡ may.0) × (t.ending ≡ ending.Whole) × (left' ≡ Some t.rest))) (sym body) (whole_said s s' left left' after may.0 may.1 may.2);
+    history = may.3;
+  })) goes.1,
+)
 goes_answers answered.Memory asked engine base h s s' left left' seen' engine' k body after goes = goes
 
 -- an engine that goes on has a history

@@ -1,5 +1,5 @@
 -- What became of a request: what was read of its body, the history that the disk then has, and what the reply shows.
-use Rattle.std.specs.Prelude.{◌≡◌, ◌≢◌, ◌⊎◌, ℕ, ◌+◌, ◌≤◌, true, false, List, ◌++◌, length, Option, Some, None, IfSome, option_map}
+use Rattle.std.specs.Prelude.{◌≡◌, ◌≢◌, ◌⊎◌, ℕ, ◌+◌, ◌≤◌, true, false, List, ◌++◌, length, Option, Some, IfSome, option_map}
 use Rattle.std.specs.Option.{ForSome}
 use Rattle.mt_answer.specs.Answer.{Answer, answer_of}
 use Rattle.mt_answer.specs.Judging.{stored_len}
@@ -10,7 +10,6 @@ use Rattle.mt_disk.specs.Files.{Files}
 use Rattle.mt_engine.specs.Current.{EngineState, IsCurrent}
 use Rattle.mt_engine.specs.History.{Bytes, History}
 use Rattle.mt_http.specs.Body.{BodyState, Told, told_from}
-use Rattle.mt_http.specs.declared.message.Ending.{Ending}
 use Rattle.mt_http.specs.declared.message.Ending.TheVariants as ending
 use Rattle.mt_http.specs.declared.message.Head.{Head}
 use Rattle.mt_http.specs.declared.stage.Stage.{Stage}

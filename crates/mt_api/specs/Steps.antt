@@ -1,7 +1,6 @@
 -- What the steps of an answer do: reading a body, refusing, adding a command.
-use Rattle.std.specs.Prelude.{◌≡◌, ◌≢◌, ◌⊎◌, ℕ, ◌+◌, ◌<◌, ◌≤◌, true, false, List, [], ◌++◌, length, Option, Some, None, IfSome, is_some}
-use Rattle.std.specs.Option.{ForSome}
-use Rattle.md5.specs.Md5.{Holds, md5}
+use Rattle.std.specs.Prelude.{◌≡◌, ◌≢◌, ◌⊎◌, ℕ, ◌+◌, ◌<◌, ◌≤◌, true, false, List, ◌++◌, length, Option, Some, None, IfSome, is_some}
+use Rattle.md5.specs.Md5.{md5}
 use Rattle.mt_answer.specs.Answer.{Answer, command_of, stamp_of}
 use Rattle.mt_answer.specs.Judging.{is_put_object, len_of, refusal_of, stores_body}
 use Rattle.mt_answer.specs.Laws.{body_len}
@@ -9,7 +8,6 @@ use Rattle.mt_base.specs.Lists.{IsPrefixOf}
 use Rattle.mt_body.specs.Stored.{IsStored, bytes_of, pieces_size, pieces_that_fit}
 use Rattle.mt_cond.specs.Conditions.{conditions_of}
 use Rattle.mt_disk.specs.Files.{Files}
-use Rattle.mt_edge.specs.Stream.{LeftAfter}
 use Rattle.mt_engine.specs.Accepting.{closed, with_run}
 use Rattle.mt_engine.specs.Current.{EngineState, IsCurrent, IsWriting}
 use Rattle.mt_engine.specs.History.{Bytes, History}
@@ -22,7 +20,6 @@ use Rattle.mt_http.specs.declared.stage.Stage.{Stage}
 use Rattle.mt_http.specs.declared.stage.Stage.TheVariants as at
 use Rattle.mt_log.specs.RunState.{RunState}
 use Rattle.mt_model.specs.CommandStep.{replay}
-use Rattle.mt_model.specs.Rows.{Rows}
 use Rattle.mt_model.specs.State.{State}
 use Rattle.mt_request.specs.Digest.{digest_refusal}
 use Rattle.mt_request.specs.Requests.{request_of}

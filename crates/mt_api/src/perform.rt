@@ -82,7 +82,12 @@ fn refusal_by(engine: &Engine, call: &Call, digest: Option<[u8; 16]>) -> Option<
     ensures { result ≡ refusal engine.now call.now digest }
 {
     match digest {
-        Some(digest) => refusal_of(&call.request, engine.tree(), &call.conditions, Some(&digest)),
+        Some(digest) => refusal_of(
+            &call.request,
+            engine.tree(),
+            &call.conditions,
+            Some(&digest),
+        ),
         None => refusal_of(&call.request, engine.tree(), &call.conditions, None),
     }
 }

@@ -72,7 +72,12 @@ fn decide<D: Disk>(
     ensures disk { result ≡ Answered.Disk → Rose (D.faults disk.old) (D.faults disk.new) }
     ensures faults { NeverFell (D.faults disk.old) (D.faults disk.new) }
 {
-    match refusal_of(&call.request, engine.tree(), &call.conditions, Some(&body.md5)) {
+    match refusal_of(
+        &call.request,
+        engine.tree(),
+        &call.conditions,
+        Some(&body.md5),
+    ) {
         Some(refused) => refuse_in(alloc, engine, disk, run, call.stamp, refused),
         None => add(alloc, engine, disk, run, call, body),
     }

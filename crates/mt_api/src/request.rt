@@ -80,7 +80,7 @@ pub fn answer<D: Disk, S: Source>(
     // Over a disk that tells what it holds: what the history leads to, and what a crash at any moment of the call leaves.
     ensures answers { (base : State Bytes) (h : History) → IsCurrent (D.seen disk.old) engine.old base h → (k : History)
         × Answers result (record { login = login.now; head = head.now; body = said body.old.framer (S.left body.old.source.now); moment = now })
-            engine.old base h (S.left body.new.source.now) (D.seen disk.new) engine.new k
+        engine.old base h (S.left body.new.source.now) (D.seen disk.new) engine.new k
         × LeavesOnly D.moment D.left_since disk.old disk.new (IsBetween base h k) }
     ensures sends { CanBeSent result (D.seen disk.new) engine.new }
     ensures serves { Serves (D.seen disk.new) engine.new }

@@ -22,10 +22,12 @@ returns-in-Whole-clause-failed g c is = absurd (settled_not c.settle.result c.se
 pub returns-in-Unfinished-clause-goes : goal.returns-in-Unfinished-clause-goes
 returns-in-Unfinished-clause-goes g c base h asked i plain e =
     let d = g.D.Disk in
-    let tells = c.in-Unfinished.ensures.tells in
-    (h, stops_goes asked c.args.engine.now base h (body_left c.args.stream.now.framer (g.S.Source.left c.args.stream.now.source.now)) c.read_rest.new.body.framer.stage (d.seen c.args.disk.now) tells.0 (answered.Unfinished c.in-Unfinished.ending) c.args.engine.now tells.1 i
-    (plain_left (d.seen c.args.disk.now) c.args.engine.now base h i asked c.args.call e plain tells.0),
-    idle d.seen d.may_leave d.moment d.left_since c.args.disk.now c.args.engine.now base h c.requires.stands i (g.met.D.Disk.only_now c.args.disk.now))
+    let tells = c.in-Unfinished.ensures.tells in (
+      h,
+      stops_goes asked c.args.engine.now base h (body_left c.args.stream.now.framer (g.S.Source.left c.args.stream.now.source.now)) c.read_rest.new.body.framer.stage (d.seen c.args.disk.now) tells.0 (answered.Unfinished c.in-Unfinished.ending) c.args.engine.now tells.1 i
+          (plain_left (d.seen c.args.disk.now) c.args.engine.now base h i asked c.args.call e plain tells.0),
+      idle d.seen d.may_leave d.moment d.left_since c.args.disk.now c.args.engine.now base h c.requires.stands i (g.met.D.Disk.only_now c.args.disk.now),
+    )
 
 pub returns-in-Unfinished-clause-keeps : goal.returns-in-Unfinished-clause-keeps
 returns-in-Unfinished-clause-keeps g c = keeps_same (answered.Unfinished c.in-Unfinished.ending) c.args.engine.now c.requires.is_open
@@ -33,10 +35,12 @@ returns-in-Unfinished-clause-keeps g c = keeps_same (answered.Unfinished c.in-Un
 pub returns-in-SourceFault-clause-goes : goal.returns-in-SourceFault-clause-goes
 returns-in-SourceFault-clause-goes g c base h asked i plain e =
     let d = g.D.Disk in
-    let tells = c.in-SourceFault.ensures.tells in
-    (h, stops_goes asked c.args.engine.now base h (body_left c.args.stream.now.framer (g.S.Source.left c.args.stream.now.source.now)) c.read_rest.new.body.framer.stage (d.seen c.args.disk.now) tells.0 answered.SourceFault c.args.engine.now tells.1 i
-    (plain_left (d.seen c.args.disk.now) c.args.engine.now base h i asked c.args.call e plain tells.0),
-    idle d.seen d.may_leave d.moment d.left_since c.args.disk.now c.args.engine.now base h c.requires.stands i (g.met.D.Disk.only_now c.args.disk.now))
+    let tells = c.in-SourceFault.ensures.tells in (
+      h,
+      stops_goes asked c.args.engine.now base h (body_left c.args.stream.now.framer (g.S.Source.left c.args.stream.now.source.now)) c.read_rest.new.body.framer.stage (d.seen c.args.disk.now) tells.0 answered.SourceFault c.args.engine.now tells.1 i
+          (plain_left (d.seen c.args.disk.now) c.args.engine.now base h i asked c.args.call e plain tells.0),
+      idle d.seen d.may_leave d.moment d.left_since c.args.disk.now c.args.engine.now base h c.requires.stands i (g.met.D.Disk.only_now c.args.disk.now),
+    )
 
 pub returns-in-SourceFault-clause-keeps : goal.returns-in-SourceFault-clause-keeps
 returns-in-SourceFault-clause-keeps g c = keeps_same answered.SourceFault c.args.engine.now c.requires.is_open

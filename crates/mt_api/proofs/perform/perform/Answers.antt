@@ -1,4 +1,4 @@
-use Rattle.std.proofs.Common.{◌≡◌, Bool, false, List, ℕ, Option, Some, None, refl, sym, ap, ◌∙◌}
+use Rattle.std.proofs.Common.{◌≡◌, false, Option, Some, None, refl, sym, ap, ◌∙◌}
 use Rattle.std.specs.Prelude.{is_some}
 use Rattle.mt_answer.specs.Answer.{command_of, reply_to}
 use Rattle.mt_answer.specs.Judging.{len_of, md5_of}
@@ -7,7 +7,6 @@ use Rattle.mt_log.specs.LogImage.{payloads_of}
 use Rattle.mt_model.specs.Rows.{Rows}
 use Rattle.mt_types.specs.declared.body.Body.{Body}
 use Rattle.mt_types.specs.declared.command.Command.{Command}
-use Rattle.mt_api.specs.declared.answered.Answered.TheVariants as answered
 use Rattle.mt_api.specs.declared.perform.TheConstants.{NO_BODY}
 use Rattle.mt_api.proofs.Ends.{held_sends, keeps_same, settled_replied}
 use Rattle.mt_api.proofs.Plain.{idle, looks, looks_sends, ready}
@@ -27,9 +26,11 @@ returns-then-not-adds-clause-settles g c base h asked bytes i plain e none =
     let engine = c.args.engine.now in
     let call = c.args.call in
     let command = none_of (command_of engine.state.rows call.request.doing NO_BODY call.stamp.moment)
-        (ap (λ (rows : Rows Body). is_some (command_of rows call.request.doing NO_BODY call.stamp.moment)) (sym c.tree.ensures.rows) ∙ c.adds.ensures NO_BODY call.stamp.moment ∙ c.if-not-adds.true) in
-    (h, looks (d.seen c.args.disk.now) engine base h i asked call e plain bytes none NO_BODY NO_BODY.md5 command c.look.result c.look.ensures,
-    idle d.seen d.may_leave d.moment d.left_since c.args.disk.now engine base h c.requires.stands i (g.met.D.Disk.only_now c.args.disk.now))
+    (ap (λ (rows : Rows Body). is_some (command_of rows call.request.doing NO_BODY call.stamp.moment)) (sym c.tree.ensures.rows) ∙ c.adds.ensures NO_BODY call.stamp.moment ∙ c.if-not-adds.true) in (
+      h,
+      looks (d.seen c.args.disk.now) engine base h i asked call e plain bytes none NO_BODY NO_BODY.md5 command c.look.result c.look.ensures,
+      idle d.seen d.may_leave d.moment d.left_since c.args.disk.now engine base h c.requires.stands i (g.met.D.Disk.only_now c.args.disk.now),
+    )
 
 pub returns-then-not-adds-clause-sends : goal.returns-then-not-adds-clause-sends
 returns-then-not-adds-clause-sends g c =

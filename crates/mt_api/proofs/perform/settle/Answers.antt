@@ -9,9 +9,11 @@ pub returns-in-Some-clause-settles : goal.returns-in-Some-clause-settles
 returns-in-Some-clause-settles g c base h asked bytes i plain e tells =
     let d = g.D.Disk in
     let engine = c.args.engine.now in
-    let is = sym (same_refusal engine c.args.call c.args.digest (Some (md5 bytes)) tells) ∙ sym c.refusal_by.ensures ∙ c.in-Some.is in
-    (h, plain_refused (d.seen c.args.disk.now) engine base h i asked c.args.call e plain c.refuse.result bytes c.in-Some.why is c.refuse.ensures,
-    idle d.seen d.may_leave d.moment d.left_since c.args.disk.now engine base h c.requires.stands i (g.met.D.Disk.only_now c.args.disk.now))
+    let is = sym (same_refusal engine c.args.call c.args.digest (Some (md5 bytes)) tells) ∙ sym c.refusal_by.ensures ∙ c.in-Some.is in (
+      h,
+      plain_refused (d.seen c.args.disk.now) engine base h i asked c.args.call e plain c.refuse.result bytes c.in-Some.why is c.refuse.ensures,
+      idle d.seen d.may_leave d.moment d.left_since c.args.disk.now engine base h c.requires.stands i (g.met.D.Disk.only_now c.args.disk.now),
+    )
 
 pub returns-in-Some-clause-sends : goal.returns-in-Some-clause-sends
 returns-in-Some-clause-sends g c =

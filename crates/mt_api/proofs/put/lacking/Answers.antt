@@ -1,4 +1,4 @@
-use Rattle.std.proofs.Common.{◌≡◌, ◌+◌, ◌++◌, [], ℕ, List, length, Some, refl, sym, ap, ◌∙◌, subst}
+use Rattle.std.proofs.Common.{◌+◌, ◌++◌, [], ℕ, List, length, Some, refl, sym, ap, ◌∙◌, subst}
 use Rattle.md5.specs.Md5.{md5}
 use Rattle.mt_answer.specs.Answer.{Answer}
 use Rattle.mt_body.specs.Stored.{pieces_that_fit}
@@ -26,12 +26,14 @@ returns-in-Whole-clause-goes g c base h qs asked left bytes e w holds took =
     let digest = c.finalize.ensures total (drains.2 bytes holds) in
     let why = c.refusal_without_room-why.ensures ∙ ap (λ (x : List ℕ). without_room (refusal engine call (Some x))) digest in
     let answer = without_room_refused engine base h qs (holding_in (d.seen c.args.disk.now) engine base h c.args.run qs w.writing) asked call e c.requires.stores total (refusal engine call (Some (md5 total))) refl
-            (lacking_full (d.seen c.args.disk.now) engine c.args.run base h qs bytes drains.0 w)
-        ∙ ap (λ (r : Refused). record { reply = error_reply call.stamp r; added = []; grew = pieces_that_fit engine.log.limit (used engine) (length total) }) (sym why) in
+    (lacking_full (d.seen c.args.disk.now) engine c.args.run base h qs bytes drains.0 w)
+    ∙ ap (λ (r : Refused). record { reply = error_reply call.stamp r; added = []; grew = pieces_that_fit engine.log.limit (used engine) (length total) }) (sym why) in
     let settles = subst (λ (a : Answer Bytes). Settles c.refuse_in.result a (used engine) base h (d.seen c.refuse_in.new.disk) c.refuse_in.new.engine h) (sym answer)
-        (c.refuse_in.ensures.settles base h qs (used engine) (pieces_that_fit engine.log.limit (used engine) (length total)) w.writing (lacking_next (d.seen c.args.disk.now) engine c.args.run base h qs bytes drains.0 w)) in
-    (h, settles_goes c.refuse_in.result asked engine base h left c.digest_body.new.body.framer.stage (d.seen c.refuse_in.new.disk) c.refuse_in.new.engine h total all c.in-Whole.ensures.over settles,
-    leaves_same d.moment d.left_since c.args.disk.now c.refuse_in.new.disk base h (c.refuse_in.ensures.any_moment base h qs w.writing))
+    (c.refuse_in.ensures.settles base h qs (used engine) (pieces_that_fit engine.log.limit (used engine) (length total)) w.writing (lacking_next (d.seen c.args.disk.now) engine c.args.run base h qs bytes drains.0 w)) in (
+      h,
+      settles_goes c.refuse_in.result asked engine base h left c.digest_body.new.body.framer.stage (d.seen c.refuse_in.new.disk) c.refuse_in.new.engine h total all c.in-Whole.ensures.over settles,
+      leaves_same d.moment d.left_since c.args.disk.now c.refuse_in.new.disk base h (c.refuse_in.ensures.any_moment base h qs w.writing),
+    )
 
 pub returns-in-Unfinished-clause-goes : goal.returns-in-Unfinished-clause-goes
 returns-in-Unfinished-clause-goes g c base h qs asked left bytes e w holds took =
@@ -42,9 +44,11 @@ returns-in-Unfinished-clause-goes g c base h qs asked left bytes e w holds took 
     let all = all_after left (body_left c.args.stream.now.framer (g.S.Source.left c.args.stream.now.source.now)) bytes drains.0 took drains.1 in
     let end = c.end_with in
     let next = lacking_next (d.seen c.args.disk.now) engine c.args.run base h qs bytes drains.0 w
-        ∙ ap (λ (n : ℕ). used engine + n) (sym (stays_left engine base h qs (holding_in (d.seen c.args.disk.now) engine base h c.args.run qs w.writing) asked c.args.call e c.requires.stores total)) in
-    (h, ended_goes asked engine base h left c.digest_body.new.body.framer.stage (d.seen end.new.disk) total end.result (answered.Unfinished c.in-Unfinished.ending) c.args.run engine end.new.engine all end.ensures.ends (end.ensures.current base h qs w.writing) (λ x. cc) next,
-    leaves_same d.moment d.left_since c.args.disk.now end.new.disk base h (end.ensures.any_moment base h qs w.writing))
+    ∙ ap (λ (n : ℕ). used engine + n) (sym (stays_left engine base h qs (holding_in (d.seen c.args.disk.now) engine base h c.args.run qs w.writing) asked c.args.call e c.requires.stores total)) in (
+      h,
+      ended_goes asked engine base h left c.digest_body.new.body.framer.stage (d.seen end.new.disk) total end.result (answered.Unfinished c.in-Unfinished.ending) c.args.run engine end.new.engine all end.ensures.ends (end.ensures.current base h qs w.writing) (λ x. cc) next,
+      leaves_same d.moment d.left_since c.args.disk.now end.new.disk base h (end.ensures.any_moment base h qs w.writing),
+    )
 
 pub returns-in-SourceFault-clause-goes : goal.returns-in-SourceFault-clause-goes
 returns-in-SourceFault-clause-goes g c base h qs asked left bytes e w holds took =
@@ -55,9 +59,11 @@ returns-in-SourceFault-clause-goes g c base h qs asked left bytes e w holds took
     let front = front_after left (body_left c.args.stream.now.framer (g.S.Source.left c.args.stream.now.source.now)) bytes drains.0 took drains.1 in
     let end = c.end_with-in-SourceFault in
     let next = lacking_next (d.seen c.args.disk.now) engine c.args.run base h qs bytes drains.0 w
-        ∙ ap (λ (n : ℕ). used engine + n) (sym (stays_left engine base h qs (holding_in (d.seen c.args.disk.now) engine base h c.args.run qs w.writing) asked c.args.call e c.requires.stores total)) in
-    (h, ended_goes asked engine base h left c.digest_body.new.body.framer.stage (d.seen end.new.disk) total end.result answered.SourceFault c.args.run engine end.new.engine front end.ensures.ends (end.ensures.current base h qs w.writing) (λ x. cc) next,
-    leaves_same d.moment d.left_since c.args.disk.now end.new.disk base h (end.ensures.any_moment base h qs w.writing))
+    ∙ ap (λ (n : ℕ). used engine + n) (sym (stays_left engine base h qs (holding_in (d.seen c.args.disk.now) engine base h c.args.run qs w.writing) asked c.args.call e c.requires.stores total)) in (
+      h,
+      ended_goes asked engine base h left c.digest_body.new.body.framer.stage (d.seen end.new.disk) total end.result answered.SourceFault c.args.run engine end.new.engine front end.ensures.ends (end.ensures.current base h qs w.writing) (λ x. cc) next,
+      leaves_same d.moment d.left_since c.args.disk.now end.new.disk base h (end.ensures.any_moment base h qs w.writing),
+    )
 
 pub returns-clause-goes : goal.returns-clause-goes
 returns-clause-goes g c base h qs asked left bytes e w holds took =
@@ -67,9 +73,11 @@ returns-clause-goes g c base h qs asked left bytes e w holds took =
     let drains = c.in-Endless.ensures.drains in
     let total = bytes ++ drains.0 in
     let next = lacking_next (d.seen c.args.disk.now) engine c.args.run base h qs bytes drains.0 w
-        ∙ ap (λ (n : ℕ). used engine + n) (sym (stays_left engine base h qs (holding_in (d.seen c.args.disk.now) engine base h c.args.run qs w.writing) asked c.args.call e c.requires.stores total)) in
-    (h, ended_goes asked engine base h left c.digest_body.new.body.framer.stage (d.seen end.new.disk) total end.result answered.Memory c.args.run engine end.new.engine tt end.ensures.ends (end.ensures.current base h qs w.writing) (λ x. cc) next,
-    leaves_same d.moment d.left_since c.args.disk.now end.new.disk base h (end.ensures.any_moment base h qs w.writing))
+    ∙ ap (λ (n : ℕ). used engine + n) (sym (stays_left engine base h qs (holding_in (d.seen c.args.disk.now) engine base h c.args.run qs w.writing) asked c.args.call e c.requires.stores total)) in (
+      h,
+      ended_goes asked engine base h left c.digest_body.new.body.framer.stage (d.seen end.new.disk) total end.result answered.Memory c.args.run engine end.new.engine tt end.ensures.ends (end.ensures.current base h qs w.writing) (λ x. cc) next,
+      leaves_same d.moment d.left_since c.args.disk.now end.new.disk base h (end.ensures.any_moment base h qs w.writing),
+    )
 
 pub returns-in-Whole-clause-over : goal.returns-in-Whole-clause-over
 returns-in-Whole-clause-over g c = settled_over c.refuse_in.result c.digest_body.new.body.framer.stage c.refuse_in.ensures.settled c.in-Whole.ensures.over

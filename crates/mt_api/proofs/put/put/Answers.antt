@@ -1,7 +1,6 @@
-use Rattle.std.proofs.Common.{◌≡◌, ◌≢◌, ◌+◌, ◌++◌, ◌<◌, ◌≤◌, [], ℕ, List, length, false, true, true≢false, inl, refl, sym, ap, ◌∙◌, subst, arith}
+use Rattle.std.proofs.Common.{◌≡◌, ◌+◌, ◌++◌, ◌<◌, ◌≤◌, [], ℕ, length, true≢false, inl, refl, sym, ap, ◌∙◌, subst, arith}
 use Rattle.mt_body.specs.Stored.{pieces_size, pieces_that_fit}
-use Rattle.mt_body.specs.declared.pieces.Storing.TheVariants as storing
-use Rattle.mt_engine.specs.Current.{EngineState, IsWriting}
+use Rattle.mt_engine.specs.Current.{EngineState}
 use Rattle.mt_engine.proofs.Ends.{all_of}
 use Rattle.mt_engine.proofs.Held.{holding_now, told_now}
 use Rattle.mt_http.specs.BodyReading.{body_left}
@@ -66,9 +65,12 @@ returns-in-Stored-clause-goes g c base h asked i e =
       fits = s.fits (omega (arith, fresh, under, ap (λ (x : EngineState). x.log.limit) same));
     } in
     let r = c.stored.ensures.goes base h (payloads_of i.is_read.files ++ s.pieces) asked left s.bytes (e ∙ ap (call_of asked) (sym same)) whole (all_ended left left' s.bytes s.took s.ended) in
-    let goes = subst (λ (x : EngineState). Goes c.stored.result asked x base h left c.stored.new.stream.framer.stage (d.seen c.stored.new.disk) c.stored.new.engine r.0) same r.1 in
-    (r.0, goes, leaves_then d.moment d.left_since c.args.disk.now c.store_body.new.disk c.stored.new.disk base h r.0
-    (goes_on c.stored.result asked engine base h left c.stored.new.stream.framer.stage (d.seen c.stored.new.disk) c.stored.new.engine r.0 goes) (c.in-Stored.ensures.any_moment base h (payloads_of i.is_read.files) w) r.2)
+    let goes = subst (λ (x : EngineState). Goes c.stored.result asked x base h left c.stored.new.stream.framer.stage (d.seen c.stored.new.disk) c.stored.new.engine r.0) same r.1 in (
+      r.0,
+      goes,
+      leaves_then d.moment d.left_since c.args.disk.now c.store_body.new.disk c.stored.new.disk base h r.0
+          (goes_on c.stored.result asked engine base h left c.stored.new.stream.framer.stage (d.seen c.stored.new.disk) c.stored.new.engine r.0 goes) (c.in-Stored.ensures.any_moment base h (payloads_of i.is_read.files) w) r.2,
+    )
 
 pub returns-in-Stored-clause-keeps : goal.returns-in-Stored-clause-keeps
 returns-in-Stored-clause-keeps g c = subst (λ (x : EngineState). Keeps c.stored.result x c.stored.new.engine) (c.in-Stored.ensures.still_open (λ x. cc)) c.stored.ensures.keeps
@@ -89,9 +91,12 @@ returns-in-Full-clause-goes g c base h asked i e =
       full = omega (arith, p.1, fresh);
     } in
     let r = c.lacking-in-Full.ensures.goes base h (payloads_of i.is_read.files ++ p.0.pieces) asked left p.0.bytes (e ∙ ap (call_of asked) (sym same)) none p.0.digested p.0.took in
-    let goes = subst (λ (x : EngineState). Goes c.lacking-in-Full.result asked x base h left c.lacking-in-Full.new.stream.framer.stage (d.seen c.lacking-in-Full.new.disk) c.lacking-in-Full.new.engine r.0) same r.1 in
-    (r.0, goes, leaves_then d.moment d.left_since c.args.disk.now c.store_body.new.disk c.lacking-in-Full.new.disk base h r.0
-    (goes_on c.lacking-in-Full.result asked engine base h left c.lacking-in-Full.new.stream.framer.stage (d.seen c.lacking-in-Full.new.disk) c.lacking-in-Full.new.engine r.0 goes) (c.in-Full.ensures.any_moment base h (payloads_of i.is_read.files) w) r.2)
+    let goes = subst (λ (x : EngineState). Goes c.lacking-in-Full.result asked x base h left c.lacking-in-Full.new.stream.framer.stage (d.seen c.lacking-in-Full.new.disk) c.lacking-in-Full.new.engine r.0) same r.1 in (
+      r.0,
+      goes,
+      leaves_then d.moment d.left_since c.args.disk.now c.store_body.new.disk c.lacking-in-Full.new.disk base h r.0
+          (goes_on c.lacking-in-Full.result asked engine base h left c.lacking-in-Full.new.stream.framer.stage (d.seen c.lacking-in-Full.new.disk) c.lacking-in-Full.new.engine r.0 goes) (c.in-Full.ensures.any_moment base h (payloads_of i.is_read.files) w) r.2,
+    )
 
 pub returns-in-Full-clause-keeps : goal.returns-in-Full-clause-keeps
 returns-in-Full-clause-keeps g c = subst (λ (x : EngineState). Keeps c.lacking-in-Full.result x c.lacking-in-Full.new.engine) (c.in-Full.ensures.still_open (λ x. cc)) c.lacking-in-Full.ensures.keeps
@@ -108,13 +113,15 @@ returns-in-SourceFault-clause-goes g c base h asked i e =
     let p = c.in-SourceFault.ensures.body base h (payloads_of i.is_read.files) w in
     let fresh : run.next + 1 ≡ used c.store_body.new.self = ap (λ (r : RunState). r.next + 1) c.begin_run-run.ensures.place ∙ sym (ap used same) in
     let next = part_next c.store_body.new.self.log.limit (used c.store_body.new.self) run.next c.store_body.new.run.next (length p.bytes) p.next fresh
-        ∙ ap (λ (x : EngineState). used x + pieces_that_fit x.log.limit (used x) (length p.bytes)) same
-        ∙ ap (λ (n : ℕ). used engine + n) (sym (stays_left engine base h (payloads_of i.is_read.files) (holding_now (d.seen c.args.disk.now) engine base h i) asked c.args.call e c.requires.stores p.bytes)) in
-    let end = c.end_with in
-    (h, ended_goes asked engine base h left c.store_body.new.source.framer.stage (d.seen end.new.disk) p.bytes end.result answered.SourceFault c.store_body.new.run c.store_body.new.self end.new.engine (front_of left left' p.bytes p.took)
-    end.ensures.ends (end.ensures.current base h (payloads_of i.is_read.files ++ p.pieces) p.writing) (λ x. cc) next,
-    leaves_then d.moment d.left_since c.args.disk.now c.store_body.new.disk end.new.disk base h h (all_of h) (c.in-SourceFault.ensures.any_moment base h (payloads_of i.is_read.files) w)
-    (leaves_same d.moment d.left_since c.store_body.new.disk end.new.disk base h (end.ensures.any_moment base h (payloads_of i.is_read.files ++ p.pieces) p.writing)))
+    ∙ ap (λ (x : EngineState). used x + pieces_that_fit x.log.limit (used x) (length p.bytes)) same
+    ∙ ap (λ (n : ℕ). used engine + n) (sym (stays_left engine base h (payloads_of i.is_read.files) (holding_now (d.seen c.args.disk.now) engine base h i) asked c.args.call e c.requires.stores p.bytes)) in
+    let end = c.end_with in (
+      h,
+      ended_goes asked engine base h left c.store_body.new.source.framer.stage (d.seen end.new.disk) p.bytes end.result answered.SourceFault c.store_body.new.run c.store_body.new.self end.new.engine (front_of left left' p.bytes p.took)
+          end.ensures.ends (end.ensures.current base h (payloads_of i.is_read.files ++ p.pieces) p.writing) (λ x. cc) next,
+      leaves_then d.moment d.left_since c.args.disk.now c.store_body.new.disk end.new.disk base h h (all_of h) (c.in-SourceFault.ensures.any_moment base h (payloads_of i.is_read.files) w)
+          (leaves_same d.moment d.left_since c.store_body.new.disk end.new.disk base h (end.ensures.any_moment base h (payloads_of i.is_read.files ++ p.pieces) p.writing)),
+    )
 
 pub returns-in-SourceFault-clause-keeps : goal.returns-in-SourceFault-clause-keeps
 returns-in-SourceFault-clause-keeps g c =

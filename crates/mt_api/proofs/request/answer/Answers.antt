@@ -1,4 +1,4 @@
-use Rattle.std.proofs.Common.{◌≡◌, refl, sym, ap, ◌∙◌}
+use Rattle.std.proofs.Common.{refl, sym, ap, ◌∙◌}
 use Rattle.mt_answer.specs.Judging.{len_of, stores_body}
 use Rattle.mt_http.specs.BodyReading.{body_left}
 use Rattle.mt_model.specs.Rows.{Rows}
@@ -59,9 +59,12 @@ returns-else-stores_body-clause-answers g c base h i =
     let s = g.S.Source in
     let asked : Asked = record { login = c.args.login.now; head = c.args.head.now; body = said c.args.body.now.framer (s.left c.args.body.now.source.now); moment = c.args.now } in
     let plain = ap (λ (rows : Rows Body). stores_body len_of c.in-Ok.call.request rows c.in-Ok.call.conditions) (sym c.tree.ensures.rows) ∙ sym c.stores_body.ensures ∙ c.if-stores_body.false in
-    let r = c.answer_plain.ensures.goes base h asked i plain (c.in-Ok.ensures.call asked.body) in
-    (r.0, goes_answers c.answer_plain.result asked c.args.engine.now base h c.args.body.now.framer c.answer_plain.new.stream.framer (s.left c.args.body.now.source.now) (s.left c.answer_plain.new.stream.source.now) (d.seen c.answer_plain.new.disk) c.answer_plain.new.engine r.0 refl
-    c.answer_plain.ensures.after r.1, r.2)
+    let r = c.answer_plain.ensures.goes base h asked i plain (c.in-Ok.ensures.call asked.body) in (
+      r.0,
+      goes_answers c.answer_plain.result asked c.args.engine.now base h c.args.body.now.framer c.answer_plain.new.stream.framer (s.left c.args.body.now.source.now) (s.left c.answer_plain.new.stream.source.now) (d.seen c.answer_plain.new.disk) c.answer_plain.new.engine r.0 refl
+          c.answer_plain.ensures.after r.1,
+      r.2,
+    )
 
 pub returns-else-stores_body-clause-serves : goal.returns-else-stores_body-clause-serves
 returns-else-stores_body-clause-serves g c =
