@@ -1,0 +1,157 @@
+use Rattle.std.proofs.Common.{◌≡◌, ◌+◌, ◌++◌, ◌<◌, ◌≤◌, [], ℕ, length, true≢false, inl, refl, sym, ap, ◌∙◌, subst, arith}
+use Rattle.mt_body.specs.Stored.{pieces_size, pieces_that_fit}
+use Rattle.mt_engine.specs.Current.{EngineState}
+use Rattle.mt_engine.proofs.Ends.{all_of}
+use Rattle.mt_engine.proofs.Held.{holding_now, told_now}
+use Rattle.mt_http.specs.BodyReading.{body_left}
+use Rattle.mt_log.specs.LogImage.{payloads_of}
+use Rattle.mt_log.specs.LogState.{Stands}
+use Rattle.mt_log.specs.RunState.{RunState}
+use Rattle.mt_api.specs.Answered.{used}
+use Rattle.mt_api.specs.Steps.{Goes, HasNoRoom, IsWhole, Keeps, StoresBody, call_of}
+use Rattle.mt_api.specs.declared.answered.Answered.TheVariants as answered
+use Rattle.mt_api.proofs.Adds.{keeps_closed}
+use Rattle.mt_api.proofs.Ends.{keeps_ended, keeps_same, leaves_same, leaves_then}
+use Rattle.mt_api.proofs.Lefts.{all_ended, front_of}
+use Rattle.mt_api.proofs.Puts.{ended_goes, goes_on, none_taken, nothing_fits, part_next, stays_left}
+use Rattle.mt_api.proofs.put.put.Goals as goal
+
+pub returns-then-used-limit-clause-goes : goal.returns-then-used-limit-clause-goes
+returns-then-used-limit-clause-goes g c base h asked i e =
+    let d = g.D.Disk in
+    let engine = c.args.engine.now in
+    let left = body_left c.args.stream.now.framer (g.S.Source.left c.args.stream.now.source.now) in
+    let w = c.begin_run-run.ensures.writing base h i (payloads_of i.is_read.files) (told_now (d.seen c.args.disk.now) engine base h i) in
+    let over : engine.log.limit < used engine + pieces_size 0 = omega (arith, c.if-used-limit.true, c.used.ensures, c.limit.ensures) in
+    let at : used engine ≡ used engine + pieces_that_fit engine.log.limit (used engine) 0 = omega (arith, nothing_fits engine.log.limit (used engine)) in
+    let none : HasNoRoom (d.seen c.args.disk.now) engine c.begin_run-run.result base h (payloads_of i.is_read.files) [] = record { writing = w; next = ap (λ (r : RunState). r.next + 1) c.begin_run-run.ensures.place ∙ at; full = over } in
+    c.lacking.ensures.goes base h (payloads_of i.is_read.files) asked left [] e none c.new-sum.ensures (none_taken left)
+
+pub stored-requires-clause-is_open : goal.stored-requires-clause-is_open
+stored-requires-clause-is_open g c = ap (λ (x : EngineState). x.log.closed) (c.in-Stored.ensures.still_open (λ x. cc)) ∙ c.requires.is_open
+
+pub stored-requires-clause-placed : goal.stored-requires-clause-placed
+stored-requires-clause-placed g c = c.in-Stored.ensures.stores.0.placed
+
+pub stored-requires-clause-stores : goal.stored-requires-clause-stores
+stored-requires-clause-stores g c = subst (λ (x : EngineState). StoresBody x c.args.call) (sym (c.in-Stored.ensures.still_open (λ x. cc))) c.requires.stores
+
+pub lacking-requires-in-Full-clause-is_open : goal.lacking-requires-in-Full-clause-is_open
+lacking-requires-in-Full-clause-is_open g c = ap (λ (x : EngineState). x.log.closed) (c.in-Full.ensures.still_open (λ x. cc)) ∙ c.requires.is_open
+
+pub lacking-requires-in-Full-clause-stores : goal.lacking-requires-in-Full-clause-stores
+lacking-requires-in-Full-clause-stores g c = subst (λ (x : EngineState). StoresBody x c.args.call) (sym (c.in-Full.ensures.still_open (λ x. cc))) c.requires.stores
+
+pub end_with-requires-clause-is_open : goal.end_with-requires-clause-is_open
+end_with-requires-clause-is_open g c = ap (λ (x : EngineState). x.log.closed) (c.in-SourceFault.ensures.still_open (λ x. cc)) ∙ c.requires.is_open
+
+pub returns-in-Stored-clause-goes : goal.returns-in-Stored-clause-goes
+returns-in-Stored-clause-goes g c base h asked i e =
+    let d = g.D.Disk in
+    let engine = c.args.engine.now in
+    let run = c.begin_run-run.result in
+    let left = body_left c.args.stream.now.framer (g.S.Source.left c.args.stream.now.source.now) in
+    let left' = body_left c.store_body.new.source.framer (g.S.Source.left c.store_body.new.source.source.now) in
+    let w = c.begin_run-run.ensures.writing base h i (payloads_of i.is_read.files) (told_now (d.seen c.args.disk.now) engine base h i) in
+    let same = c.in-Stored.ensures.still_open (λ x. cc) in
+    let s = c.in-Stored.ensures.body base h (payloads_of i.is_read.files) w in
+    let fresh : run.next + 1 ≡ used engine = ap (λ (r : RunState). r.next + 1) c.begin_run-run.ensures.place in
+    let under : used engine ≤ engine.log.limit = omega (arith, c.if-used-limit.false, c.used.ensures, c.limit.ensures) in
+    let whole : IsWhole (d.seen c.store_body.new.disk) c.store_body.new.self c.store_body.new.run base h (payloads_of i.is_read.files ++ s.pieces) c.in-Stored.body s.bytes = record {
+      writing = s.writing;
+      stored = s.stands;
+      reads = s.reads;
+      next = omega (arith, s.next, fresh, ap used same);
+      fits = s.fits (omega (arith, fresh, under, ap (λ (x : EngineState). x.log.limit) same));
+    } in
+    let r = c.stored.ensures.goes base h (payloads_of i.is_read.files ++ s.pieces) asked left s.bytes (e ∙ ap (call_of asked) (sym same)) whole (all_ended left left' s.bytes s.took s.ended) in
+    let goes = subst (λ (x : EngineState). Goes c.stored.result asked x base h left c.stored.new.stream.framer.stage (d.seen c.stored.new.disk) c.stored.new.engine r.0) same r.1 in (
+      r.0,
+      goes,
+      leaves_then d.moment d.left_since c.args.disk.now c.store_body.new.disk c.stored.new.disk base h r.0
+          (goes_on c.stored.result asked engine base h left c.stored.new.stream.framer.stage (d.seen c.stored.new.disk) c.stored.new.engine r.0 goes) (c.in-Stored.ensures.any_moment base h (payloads_of i.is_read.files) w) r.2,
+    )
+
+pub returns-in-Stored-clause-keeps : goal.returns-in-Stored-clause-keeps
+returns-in-Stored-clause-keeps g c = subst (λ (x : EngineState). Keeps c.stored.result x c.stored.new.engine) (c.in-Stored.ensures.still_open (λ x. cc)) c.stored.ensures.keeps
+
+pub returns-in-Full-clause-goes : goal.returns-in-Full-clause-goes
+returns-in-Full-clause-goes g c base h asked i e =
+    let d = g.D.Disk in
+    let engine = c.args.engine.now in
+    let run = c.begin_run-run.result in
+    let left = body_left c.args.stream.now.framer (g.S.Source.left c.args.stream.now.source.now) in
+    let w = c.begin_run-run.ensures.writing base h i (payloads_of i.is_read.files) (told_now (d.seen c.args.disk.now) engine base h i) in
+    let same = c.in-Full.ensures.still_open (λ x. cc) in
+    let p = c.in-Full.ensures.body base h (payloads_of i.is_read.files) w in
+    let fresh : run.next + 1 ≡ used c.store_body.new.self = ap (λ (r : RunState). r.next + 1) c.begin_run-run.ensures.place ∙ sym (ap used same) in
+    let none : HasNoRoom (d.seen c.store_body.new.disk) c.store_body.new.self c.store_body.new.run base h (payloads_of i.is_read.files ++ p.0.pieces) p.0.bytes = record {
+      writing = p.0.writing;
+      next = part_next c.store_body.new.self.log.limit (used c.store_body.new.self) run.next c.store_body.new.run.next (length p.0.bytes) p.0.next fresh;
+      full = omega (arith, p.1, fresh);
+    } in
+    let r = c.lacking-in-Full.ensures.goes base h (payloads_of i.is_read.files ++ p.0.pieces) asked left p.0.bytes (e ∙ ap (call_of asked) (sym same)) none p.0.digested p.0.took in
+    let goes = subst (λ (x : EngineState). Goes c.lacking-in-Full.result asked x base h left c.lacking-in-Full.new.stream.framer.stage (d.seen c.lacking-in-Full.new.disk) c.lacking-in-Full.new.engine r.0) same r.1 in (
+      r.0,
+      goes,
+      leaves_then d.moment d.left_since c.args.disk.now c.store_body.new.disk c.lacking-in-Full.new.disk base h r.0
+          (goes_on c.lacking-in-Full.result asked engine base h left c.lacking-in-Full.new.stream.framer.stage (d.seen c.lacking-in-Full.new.disk) c.lacking-in-Full.new.engine r.0 goes) (c.in-Full.ensures.any_moment base h (payloads_of i.is_read.files) w) r.2,
+    )
+
+pub returns-in-Full-clause-keeps : goal.returns-in-Full-clause-keeps
+returns-in-Full-clause-keeps g c = subst (λ (x : EngineState). Keeps c.lacking-in-Full.result x c.lacking-in-Full.new.engine) (c.in-Full.ensures.still_open (λ x. cc)) c.lacking-in-Full.ensures.keeps
+
+pub returns-in-SourceFault-clause-goes : goal.returns-in-SourceFault-clause-goes
+returns-in-SourceFault-clause-goes g c base h asked i e =
+    let d = g.D.Disk in
+    let engine = c.args.engine.now in
+    let run = c.begin_run-run.result in
+    let left = body_left c.args.stream.now.framer (g.S.Source.left c.args.stream.now.source.now) in
+    let left' = body_left c.store_body.new.source.framer (g.S.Source.left c.store_body.new.source.source.now) in
+    let w = c.begin_run-run.ensures.writing base h i (payloads_of i.is_read.files) (told_now (d.seen c.args.disk.now) engine base h i) in
+    let same = c.in-SourceFault.ensures.still_open (λ x. cc) in
+    let p = c.in-SourceFault.ensures.body base h (payloads_of i.is_read.files) w in
+    let fresh : run.next + 1 ≡ used c.store_body.new.self = ap (λ (r : RunState). r.next + 1) c.begin_run-run.ensures.place ∙ sym (ap used same) in
+    let next = part_next c.store_body.new.self.log.limit (used c.store_body.new.self) run.next c.store_body.new.run.next (length p.bytes) p.next fresh
+    ∙ ap (λ (x : EngineState). used x + pieces_that_fit x.log.limit (used x) (length p.bytes)) same
+    ∙ ap (λ (n : ℕ). used engine + n) (sym (stays_left engine base h (payloads_of i.is_read.files) (holding_now (d.seen c.args.disk.now) engine base h i) asked c.args.call e c.requires.stores p.bytes)) in
+    let end = c.end_with in (
+      h,
+      ended_goes asked engine base h left c.store_body.new.source.framer.stage (d.seen end.new.disk) p.bytes end.result answered.SourceFault c.store_body.new.run c.store_body.new.self end.new.engine (front_of left left' p.bytes p.took)
+          end.ensures.ends (end.ensures.current base h (payloads_of i.is_read.files ++ p.pieces) p.writing) (λ x. cc) next,
+      leaves_then d.moment d.left_since c.args.disk.now c.store_body.new.disk end.new.disk base h h (all_of h) (c.in-SourceFault.ensures.any_moment base h (payloads_of i.is_read.files) w)
+          (leaves_same d.moment d.left_since c.store_body.new.disk end.new.disk base h (end.ensures.any_moment base h (payloads_of i.is_read.files ++ p.pieces) p.writing)),
+    )
+
+pub returns-in-SourceFault-clause-keeps : goal.returns-in-SourceFault-clause-keeps
+returns-in-SourceFault-clause-keeps g c =
+    let same = c.in-SourceFault.ensures.still_open (λ x. cc) in
+    subst (λ (x : EngineState). Keeps c.end_with.result x c.end_with.new.engine) same
+    (keeps_ended c.end_with.result answered.SourceFault c.store_body.new.self c.store_body.new.run c.end_with.new.engine (ap (λ (x : EngineState). x.log.closed) same ∙ c.requires.is_open) c.end_with.ensures.ends)
+
+pub returns-in-Disk-clause-goes : goal.returns-in-Disk-clause-goes
+returns-in-Disk-clause-goes g c base h asked i e =
+    let d = g.D.Disk in
+    let w = c.begin_run-run.ensures.writing base h i (payloads_of i.is_read.files) (told_now (d.seen c.args.disk.now) c.args.engine.now base h i) in
+    (h, (c.in-Disk.ensures.closed refl, inl refl), leaves_same d.moment d.left_since c.args.disk.now c.store_body.new.disk base h (c.in-Disk.ensures.any_moment base h (payloads_of i.is_read.files) w))
+
+pub returns-in-Disk-clause-keeps : goal.returns-in-Disk-clause-keeps
+returns-in-Disk-clause-keeps g c = keeps_closed answered.Disk c.args.engine.now c.store_body.new.self (c.in-Disk.ensures.closed refl) (λ x y. x refl)
+
+pub returns-in-Disk-clause-stands : goal.returns-in-Disk-clause-stands
+returns-in-Disk-clause-stands g c is_open = absurd (true≢false (sym (c.in-Disk.ensures.closed refl) ∙ is_open))
+
+pub returns-in-Memory-clause-goes : goal.returns-in-Memory-clause-goes
+returns-in-Memory-clause-goes g c base h asked i e =
+    let d = g.D.Disk in
+    let w = c.begin_run-run.ensures.writing base h i (payloads_of i.is_read.files) (told_now (d.seen c.args.disk.now) c.args.engine.now base h i) in
+    (h, (refl, λ is_open. (c.in-Memory.ensures.body base h (payloads_of i.is_read.files) w).current), leaves_same d.moment d.left_since c.args.disk.now c.store_body.new.disk base h (c.in-Memory.ensures.any_moment base h (payloads_of i.is_read.files) w))
+
+pub returns-in-Memory-clause-keeps : goal.returns-in-Memory-clause-keeps
+returns-in-Memory-clause-keeps g c = subst (λ (x : EngineState). Keeps answered.Memory x c.store_body.new.self) (c.in-Memory.ensures.still_open (λ x. cc)) (keeps_same answered.Memory c.store_body.new.self (ap (λ (x : EngineState). x.log.closed) (c.in-Memory.ensures.still_open (λ x. cc)) ∙ c.requires.is_open))
+
+pub returns-in-Memory-clause-stands : goal.returns-in-Memory-clause-stands
+returns-in-Memory-clause-stands g c =
+    let d = g.D.Disk in
+    subst (λ x. Stands d.seen d.may_leave x c.store_body.new.self.log) (sym (c.in-Memory.ensures.memory refl).0)
+    (subst (λ (x : EngineState). Stands d.seen d.may_leave c.args.disk.now x.log) (sym (c.in-Memory.ensures.still_open (λ x. cc))) c.requires.stands)

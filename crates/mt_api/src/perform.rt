@@ -1,0 +1,163 @@
+//! Requests whose body isn't stored.
+ghost use Rattle.std.specs.Prelude.{◌≡◌, ◌≤◌, Some, None, false, is_some};
+ghost use Rattle.std.specs.Option.{option_copied};
+ghost use Rattle.md5.specs.Md5.{md5};
+ghost use Rattle.mt_answer.specs.Judging.{len_of, md5_of};
+ghost use Rattle.mt_answer.specs.Answer as words;
+ghost use Rattle.mt_api.specs.Answered.{Asked, CanBeSent, EndsBody, answer_at, used};
+ghost use Rattle.mt_api.specs.Steps.{Goes, IsPlain, IsSettled, Keeps, Replies, Settles, call_of, refusal};
+ghost use Rattle.mt_base.specs.Counts.{NeverFell, Rose};
+ghost use Rattle.mt_disk.specs.CrashModel.{LeavesOnly};
+ghost use Rattle.mt_engine.specs.Current.{IsBetween, IsCurrent, Serves};
+ghost use Rattle.mt_engine.specs.History.{Bytes, History};
+ghost use Rattle.mt_http.specs.BodyReading.{after_body, body_left};
+ghost use Rattle.mt_log.specs.LogState.{Stands};
+ghost use Rattle.mt_model.specs.CommandStep.{replay};
+ghost use Rattle.mt_model.specs.State.{State};
+ghost use Rattle.mt_request.specs.Digest.{digest_refusal};
+ghost use Rattle.mt_request.specs.Laws.{FitsDoing};
+
+use crate::answered::Answered;
+use crate::bodies::{Rest, read_rest};
+use crate::call::Call;
+use crate::change::{add, adds, reply_at};
+use crate::refuse::refuse;
+use mt_answer::refusal_of;
+use mt_base::LAST_MOMENT;
+use mt_disk::Disk;
+use mt_edge::Source;
+use mt_engine::Engine;
+use mt_error::Refused;
+use mt_http::BodyStream;
+use mt_types::Body;
+use std::alloc::{AllocError, Global};
+
+/// The body of a command that has none.
+const NO_BODY: Body = Body {
+    first: 0,
+    len: 0,
+    md5: [0; 16],
+};
+
+// Answers a call that changes nothing and isn't refused.
+fn look(alloc: Global, engine: &Engine, call: &Call) -> Answered
+    requires { call.now.stamp.moment ≤ LAST_MOMENT }
+    ensures { Replies result (words.reply_to len_of md5_of call.now.stamp engine.now.state.count engine.now.state.rows call.now.conditions call.now.request.doing NO_BODY.md5) }
+{
+    match reply_at(alloc, engine, call, call.stamp.position, &NO_BODY.md5) {
+        Ok(reply) => Answered::Replied(reply),
+        Err(AllocError) => Answered::Memory,
+    }
+}
+
+// Does what is asked for, which isn't refused.
+fn perform<D: Disk>(alloc: Global, engine: &mut Engine, disk: &mut D, call: Call) -> Answered
+    requires stands { Stands D.seen D.may_leave disk.old engine.old.log }
+    requires is_open { engine.old.log.closed ≡ false }
+    requires version { engine.old.log.is_old ≡ false }
+    requires serves { Serves (D.seen disk.old) engine.old }
+    requires moment { call.stamp.moment ≤ LAST_MOMENT }
+    requires fits { FitsDoing call.request.doing }
+    ensures settles { (base : State Bytes) (h : History) (asked : Asked) (bytes : Bytes) → IsCurrent (D.seen disk.old) engine.old base h → IsPlain engine.old call → call ≡ call_of asked engine.old →
+        refusal engine.old call (Some (md5 bytes)) ≡ None →
+        (k : History) × Settles result (answer_at asked engine.old (replay base h) bytes) (used engine.old) base h (D.seen disk.new) engine.new k
+        × LeavesOnly D.moment D.left_since disk.old disk.new (IsBetween base h k) }
+    ensures sends { CanBeSent result (D.seen disk.new) engine.new }
+    ensures settled { IsSettled result }
+    ensures keeps { Keeps result engine.old engine.new }
+    ensures stands { Stands D.seen D.may_leave disk.new engine.new.log }
+    ensures told { engine.new.log.closed ≡ false → is_some (D.seen disk.new) ≡ is_some (D.seen disk.old) }
+    ensures disk { result ≡ Answered.Disk → Rose (D.faults disk.old) (D.faults disk.new) }
+    ensures faults { NeverFell (D.faults disk.old) (D.faults disk.new) }
+{
+    if !adds(engine.tree(), &call.request.doing) {
+        return look(alloc, engine, &call);
+    }
+    let run = engine.begin_run(disk);
+    add(alloc, engine, disk, run, call, NO_BODY)
+}
+
+// Why a call is refused whose body was read, by its digest where that is wanted.
+fn refusal_by(engine: &Engine, call: &Call, digest: Option<[u8; 16]>) -> Option<Refused>
+    ensures { result ≡ refusal engine.now call.now digest }
+{
+    match digest {
+        Some(digest) => refusal_of(
+            &call.request,
+            engine.tree(),
+            &call.conditions,
+            Some(&digest),
+        ),
+        None => refusal_of(&call.request, engine.tree(), &call.conditions, None),
+    }
+}
+
+// Answers a call whose body was read and isn't stored, by its digest where that is wanted.
+fn settle<D: Disk>(
+    alloc: Global,
+    engine: &mut Engine,
+    disk: &mut D,
+    call: Call,
+    digest: Option<[u8; 16]>,
+) -> Answered
+    requires stands { Stands D.seen D.may_leave disk.old engine.old.log }
+    requires is_open { engine.old.log.closed ≡ false }
+    requires version { engine.old.log.is_old ≡ false }
+    requires serves { Serves (D.seen disk.old) engine.old }
+    requires moment { call.stamp.moment ≤ LAST_MOMENT }
+    requires fits { FitsDoing call.request.doing }
+    ensures settles { (base : State Bytes) (h : History) (asked : Asked) (bytes : Bytes) → IsCurrent (D.seen disk.old) engine.old base h → IsPlain engine.old call → call ≡ call_of asked engine.old →
+        digest_refusal call.request.wish digest ≡ digest_refusal call.request.wish (Some (md5 bytes)) →
+        (k : History) × Settles result (answer_at asked engine.old (replay base h) bytes) (used engine.old) base h (D.seen disk.new) engine.new k
+        × LeavesOnly D.moment D.left_since disk.old disk.new (IsBetween base h k) }
+    ensures sends { CanBeSent result (D.seen disk.new) engine.new }
+    ensures settled { IsSettled result }
+    ensures keeps { Keeps result engine.old engine.new }
+    ensures stands { Stands D.seen D.may_leave disk.new engine.new.log }
+    ensures told { engine.new.log.closed ≡ false → is_some (D.seen disk.new) ≡ is_some (D.seen disk.old) }
+    ensures disk { result ≡ Answered.Disk → Rose (D.faults disk.old) (D.faults disk.new) }
+    ensures faults { NeverFell (D.faults disk.old) (D.faults disk.new) }
+{
+    match refusal_by(engine, &call, digest) {
+        Some(why) => refuse(alloc, call.stamp, why),
+        None => perform(alloc, engine, disk, call),
+    }
+}
+
+/// Answers a call whose body isn't stored: it is refused whatever its body is, or puts no object.
+pub(crate) fn answer_plain<D: Disk, S: Source>(
+    alloc: Global,
+    engine: &mut Engine,
+    disk: &mut D,
+    call: Call,
+    stream: &mut BodyStream<'_, S>,
+) -> Answered
+    requires stands { Stands D.seen D.may_leave disk.old engine.old.log }
+    requires is_open { engine.old.log.closed ≡ false }
+    requires version { engine.old.log.is_old ≡ false }
+    requires serves { Serves (D.seen disk.old) engine.old }
+    requires moment { call.stamp.moment ≤ LAST_MOMENT }
+    requires fits { FitsDoing call.request.doing }
+    ensures goes { (base : State Bytes) (h : History) (asked : Asked) → IsCurrent (D.seen disk.old) engine.old base h → IsPlain engine.old call → call ≡ call_of asked engine.old →
+        (k : History) × Goes result asked engine.old base h (body_left stream.old.framer (S.left stream.old.source.now)) stream.new.framer.stage (D.seen disk.new) engine.new k
+        × LeavesOnly D.moment D.left_since disk.old disk.new (IsBetween base h k) }
+    ensures over { EndsBody result stream.new.framer.stage }
+    ensures sends { CanBeSent result (D.seen disk.new) engine.new }
+    ensures keeps { Keeps result engine.old engine.new }
+    ensures stands { Stands D.seen D.may_leave disk.new engine.new.log }
+    ensures told { engine.new.log.closed ≡ false → is_some (D.seen disk.new) ≡ is_some (D.seen disk.old) }
+    ensures disk { result ≡ Answered.Disk → Rose (D.faults disk.old) (D.faults disk.new) }
+    ensures faults { NeverFell (D.faults disk.old) (D.faults disk.new) }
+    ensures failed { result ≡ Answered.SourceFault → Rose (S.read_faults stream.old.source.now) (S.read_faults stream.new.source.now) }
+    ensures reads { NeverFell (S.read_faults stream.old.source.now) (S.read_faults stream.new.source.now) }
+    ensures source { stream.new.source.ghost_name ≡ stream.old.source.ghost_name }
+    ensures stays { S.source_stays stream.old.source.now stream.new.source.now }
+    ensures after { after_body stream.new.framer (S.left stream.new.source.now) ≡ after_body stream.old.framer (S.left stream.old.source.now) }
+{
+    match read_rest(&call.request.wish, stream) {
+        Rest::Whole(digest) => settle(alloc, engine, disk, call, digest),
+        Rest::Unfinished(ending) => Answered::Unfinished(ending),
+        Rest::SourceFault => Answered::SourceFault,
+        Rest::Memory => Answered::Memory,
+    }
+}

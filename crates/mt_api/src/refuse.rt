@@ -1,0 +1,89 @@
+//! The end of a run without a command, and refusals.
+ghost use Rattle.std.specs.Prelude.{◌≡◌, ◌≢◌, ◌⊎◌, ◌≤◌, ◌+◌, ℕ, List, [], false, true, is_some};
+ghost use Rattle.mt_api.specs.Answered.{used};
+ghost use Rattle.mt_api.specs.Steps.{AreHeld, EndsWith, IsSettled, Keeps, Replies, Settles};
+ghost use Rattle.mt_base.specs.Counts.{NeverFell, Rose};
+ghost use Rattle.mt_disk.specs.CrashModel.{LeavesOnly};
+ghost use Rattle.mt_engine.specs.Current.{IsBetween, IsCurrent, IsWriting};
+ghost use Rattle.mt_engine.specs.History.{Bytes, HasHistory, History};
+ghost use Rattle.mt_log.specs.LogState.{Stands};
+ghost use Rattle.mt_log.specs.RunState.{Running};
+ghost use Rattle.mt_model.specs.State.{State};
+ghost use Rattle.mt_reply.specs.Replies as words;
+
+use crate::answered::Answered;
+use mt_base::LAST_MOMENT;
+use mt_disk::Disk;
+use mt_engine::{Engine, RunEnd};
+use mt_error::Refused;
+use mt_log::Run;
+use mt_reply::{Stamp, error_reply};
+use std::alloc::{AllocError, Global};
+
+/// Ends a run without a command, and answers so.
+pub(crate) fn end_with<D: Disk>(
+    engine: &mut Engine,
+    disk: &mut D,
+    run: Run,
+    answer: Answered,
+) -> Answered
+    requires running { Running D.seen D.may_leave disk.old engine.old.log run }
+    requires order { engine.old.log.closed ≡ false → engine.old.log.gate ≤ run.next }
+    requires is_open { engine.old.log.closed ≡ false }
+    requires no_fault { answer ≢ Answered.Disk }
+    ensures ends { EndsWith result answer engine.old run engine.new }
+    ensures current { (base : State Bytes) (h : History) (qs : List (List ℕ)) → IsWriting (D.seen disk.old) engine.old run base h qs →
+        result ≢ Answered.Disk → IsCurrent (D.seen disk.new) engine.new base h }
+    ensures any_moment { (base : State Bytes) (h : History) (qs : List (List ℕ)) → IsWriting (D.seen disk.old) engine.old run base h qs →
+        LeavesOnly D.moment D.left_since disk.old disk.new (HasHistory base h) }
+    ensures stands { Stands D.seen D.may_leave disk.new engine.new.log }
+    ensures told { engine.new.log.closed ≡ false → is_some (D.seen disk.new) ≡ is_some (D.seen disk.old) }
+    ensures disk { result ≡ Answered.Disk → Rose (D.faults disk.old) (D.faults disk.new) }
+    ensures faults { NeverFell (D.faults disk.old) (D.faults disk.new) }
+{
+    match engine.end_run(disk, run) {
+        RunEnd::Done => answer,
+        RunEnd::Disk => Answered::Disk,
+    }
+}
+
+/// Refuses a request. Nothing but memory is taken.
+pub(crate) fn refuse(alloc: Global, stamp: Stamp, why: Refused) -> Answered
+    requires { stamp.moment ≤ LAST_MOMENT }
+    ensures { Replies result (words.error_reply stamp why) }
+{
+    match error_reply(alloc, stamp, why) {
+        Ok(reply) => Answered::Replied(reply),
+        Err(AllocError) => Answered::Memory,
+    }
+}
+
+/// Refuses a request, and ends its run: the pieces that it has taken stay.
+pub(crate) fn refuse_in<D: Disk>(
+    alloc: Global,
+    engine: &mut Engine,
+    disk: &mut D,
+    run: Run,
+    stamp: Stamp,
+    why: Refused,
+) -> Answered
+    requires running { Running D.seen D.may_leave disk.old engine.old.log run }
+    requires order { engine.old.log.closed ≡ false → engine.old.log.gate ≤ run.next }
+    requires is_open { engine.old.log.closed ≡ false }
+    requires moment { stamp.moment ≤ LAST_MOMENT }
+    ensures settles { (base : State Bytes) (h : History) (qs : List (List ℕ)) (before grew : ℕ) → IsWriting (D.seen disk.old) engine.old run base h qs →
+        run.next + 1 ≡ before + grew →
+        Settles result (record { reply = words.error_reply stamp why; added = []; grew = grew }) before base h (D.seen disk.new) engine.new h }
+    ensures any_moment { (base : State Bytes) (h : History) (qs : List (List ℕ)) → IsWriting (D.seen disk.old) engine.old run base h qs →
+        LeavesOnly D.moment D.left_since disk.old disk.new (HasHistory base h) }
+    ensures held { AreHeld result }
+    ensures settled { IsSettled result }
+    ensures keeps { Keeps result engine.old engine.new }
+    ensures stands { Stands D.seen D.may_leave disk.new engine.new.log }
+    ensures told { engine.new.log.closed ≡ false → is_some (D.seen disk.new) ≡ is_some (D.seen disk.old) }
+    ensures disk { result ≡ Answered.Disk → Rose (D.faults disk.old) (D.faults disk.new) }
+    ensures faults { NeverFell (D.faults disk.old) (D.faults disk.new) }
+{
+    let answer = refuse(alloc, stamp, why);
+    end_with(engine, disk, run, answer)
+}
