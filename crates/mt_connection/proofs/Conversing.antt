@@ -1,0 +1,325 @@
+-- What became of a message whose head was read, by what its request was answered.
+use Rattle.std.proofs.Common.{◌≡◌, ℕ, ◌+◌, ◌≤◌, [], ◌++◌, length, Option, Some, None, Bool, true, false, inl, inr, ◌⊎◌, refl, ap, sym, subst, ◌∙◌, arith, append-nil, length-append}
+use Rattle.std.specs.Prelude.{IfSome, is_some}
+use Rattle.std.proofs.lemmas.Option.{IfSome_then}
+use Rattle.md5.specs.Md5.{md5}
+use Rattle.mt_answer.specs.Answer.{Answer, accept, add_if, answer_by, answer_in, answer_of, command_of, has_room, stamp_of}
+use Rattle.mt_answer.specs.Judging.{refusal_of}
+use Rattle.mt_api.specs.Answered.{Answers, Asked, Hears, MayStand, Shows, said}
+use Rattle.mt_api.specs.declared.answered.Answered.{Answered}
+use Rattle.mt_api.specs.declared.answered.Answered.TheVariants as answered
+use Rattle.mt_base.specs.Lists.{IsPrefixOf}
+use Rattle.mt_body.specs.Stored.{bytes_of}
+use Rattle.mt_cond.specs.Conditions.{conditions_of}
+use Rattle.mt_cond.specs.declared.conditions.Conditions.{Conditions}
+use Rattle.mt_disk.specs.Files.{Files}
+use Rattle.mt_edge.specs.Stream.{LeftAfter, GotMore}
+use Rattle.mt_engine.specs.Current.{EngineState, IsCurrent}
+use Rattle.mt_engine.specs.History.{Bytes, History}
+use Rattle.mt_error.specs.declared.refused.Refused.{Refused}
+use Rattle.mt_http.specs.Body.{BodyState, Told, first_state, told_from}
+use Rattle.mt_http.specs.Framing.{HasBody, Place, PlaceAt, SpellsHead, body_of, limit_of}
+use Rattle.mt_http.specs.Options.{interim}
+use Rattle.mt_http.specs.ReplyText.{body_bytes, reply_text, text_with}
+use Rattle.mt_http.specs.declared.message.Ending.{Ending}
+use Rattle.mt_http.specs.declared.message.Ending.TheVariants as ending
+use Rattle.mt_http.specs.declared.message.Head.{Head}
+use Rattle.mt_log.specs.LogImage.{payloads_of}
+use Rattle.mt_model.specs.CommandStep.{replay}
+use Rattle.mt_model.specs.State.{State}
+use Rattle.mt_reply.specs.declared.stamp.Stamp.{Stamp}
+use Rattle.mt_request.specs.Requests.{request_of}
+use Rattle.mt_request.specs.declared.request.Doing.{Doing}
+use Rattle.mt_request.specs.declared.request.Request.{Request}
+use Rattle.mt_types.specs.Values.{reply_body_with, reply_with}
+use Rattle.mt_types.specs.declared.body.Body.{Body}
+use Rattle.mt_types.specs.declared.command.Command.{Command}
+use Rattle.mt_types.specs.declared.reply.Reply.{Reply}
+use Rattle.mt_types.specs.declared.reply.ReplyBody.{ReplyBody}
+use Rattle.mt_types.specs.declared.reply.ReplyBody.TheVariants.{Held, Part}
+use Rattle.mt_connection.specs.Endings.{AllCameAt, CameAt, Cut, GrewBy, Unanswered}
+use Rattle.mt_connection.specs.Sides.{LinkSide, sides}
+use Rattle.mt_connection.specs.Steps.{CanBeRead, IsBodyOf, text_to}
+use Rattle.mt_connection.specs.Transcript.{Over, is_head, setting}
+use Rattle.mt_connection.proofs.Reading.{all_some, head_at, message_read, of_mapped, unanswered}
+use Rattle.mt_connection.proofs.Crashes.{all_of}
+use Rattle.mt_connection.proofs.Steps.{Replying}
+
+pub over_none : (engine : EngineState) (base : State Bytes) (h : History) → Over None engine base h
+over_none engine base h = λ files is. let no : None ≡ Some files = is in absurd (cc)
+
+true_is_false : true ≡ false → ⊥
+true_is_false h = cc
+
+-- the bytes of the body that is told
+abbrev body_said : Option Told → Bytes
+body_said None = []
+body_said (Some t) = t.body
+
+said_so : (o : Option Told) → IfSome o (λ t. t.body ≡ body_said o)
+said_so None = tt
+said_so (Some t) = refl
+
+-- the bytes that a reply shows
+shown_bytes : (files : Files) (b : ReplyBody Body) (bytes : Bytes) → IsBodyOf (Some files) b bytes → body_bytes (reply_body_with (bytes_of (payloads_of files)) b) ≡ bytes
+shown_bytes files (Held held) bytes is = sym is
+shown_bytes files (Part body from to) bytes is = sym (is.1 (payloads_of files) refl)
+
+shown_text : (files : Files) (reply : Reply Body) (shown : Reply Bytes) (bytes : Bytes) (head : Head) → reply_with (bytes_of (payloads_of files)) reply ≡ shown → IsBodyOf (Some files) reply.body bytes → reply_text shown (is_head head) ≡ text_to reply bytes head
+shown_text files reply shown bytes head shows is =
+    sym (ap (λ (r : Reply Bytes). reply_text r (is_head head)) shows) ∙ ap (λ (b : Bytes). text_with reply.status reply.fields reply.closes b (is_head head)) (shown_bytes files reply.body bytes is)
+
+-- it was answered
+pub replied : (gives : ℕ → Type 0) (login : Bytes) (base : State Bytes) (h : History) (before at : LinkSide) (head : Head) (used : Bytes) → LeftAfter before.left used at.left → SpellsHead used head
+    → (engine engine' : EngineState) (moment : ℕ) (new : LinkSide) (d d' : ℕ) (M : State Bytes → History → History → Type 0) (seen seen' : Option Files) (reply : Reply Body) → gives moment → is_some seen' ≡ is_some seen
+    → IfSome (said (first_state head.framing (limit_of head)) at.left) (λ t. (t.ending ≡ ending.Whole) × (new.left ≡ Some t.rest)) → (at.left ≡ None → new.left ≡ None)
+    → ((base : State Bytes) (h : History) → IsCurrent seen engine base h → (k : History)
+    × Answers (answered.Replied reply) (record { login = login; head = head; body = said (first_state head.framing (limit_of head)) at.left; moment = moment }) engine base h new.left seen' engine' k × M base h k)
+    → Over seen engine base h → (body : Bytes) → IsBodyOf seen' reply.body body
+    → (k : History) × Replying (setting (is_some before.left) (is_some seen) gives login engine.log.limit base) (sides before h seen d engine) (sides new k seen' d' engine') head (text_to reply body head)
+    × Over seen' engine' base k × (is_some seen ≡ true → M base h k)
+replied gives login base h before at head used gone spelled engine engine' moment new d d' M None None reply given told whole none answers over body is =
+    let m = message_read before.left at.left new.left head used gone spelled whole none in
+    let bytes : Bytes = body_said (said (first_state head.framing (limit_of head)) at.left) in (
+      h,
+      record {
+        read = m.0;
+        body = bytes;
+        moment = moment;
+        answer = record { reply = record { status = reply.status; fields = reply.fields; body = Held body; closes = reply.closes }; added = []; grew = 0 };
+        is_read = m.2 bytes (said_so (said (first_state head.framing (limit_of head)) at.left));
+        source = m.1;
+        given = given;
+        answered = (refl, refl);
+        is_text = refl;
+        history = sym (append-nil h);
+        used = omega arith;
+      },
+      over_none engine' base h,
+      (λ knows. absurd (true_is_false (sym knows))),
+    )
+replied gives login base h before at head used gone spelled engine engine' moment new d d' M None (Some files') reply given told whole none answers over body is = absurd (true_is_false told)
+replied gives login base h before at head used gone spelled engine engine' moment new d d' M (Some files) None reply given told whole none answers over body is = absurd (true_is_false (sym told))
+replied gives login base h before at head used gone spelled engine engine' moment new d d' M (Some files) (Some files') reply given told whole none answers over body is =
+    let m = message_read before.left at.left new.left head used gone spelled whole none in
+    let a = answers base h (over files refl) in
+    let g = a.1.2 in (
+      a.0,
+      record {
+        read = m.0;
+        body = a.1.0;
+        moment = moment;
+        answer = answer_of login engine.log.limit (replay base h) (engine.log.gate + 1) head a.1.0 moment;
+        is_read = m.2 a.1.0 a.1.1;
+        source = m.1;
+        given = given;
+        answered = refl;
+        is_text = shown_text files' reply _ body head (g.shows (payloads_of files') refl) is;
+        history = g.history;
+        used = g.grew;
+      },
+      (λ other is. g.current),
+      (λ knows. a.2),
+    )
+
+-- all that came of a body
+all_came : (before at : Option Bytes) (head : Head) (used came : Bytes) → LeftAfter before used at → SpellsHead used head → IfSome (said (first_state head.framing (limit_of head)) at) (λ t. t.body ≡ came) → AllCameAt before head came
+all_came before at head used came gone spelled is = head_at before at head used gone spelled (λ rest. (body_of head rest).body ≡ came) (of_mapped (told_from (first_state head.framing (limit_of head))) at (λ t. t.body ≡ came) is)
+
+-- a part of it
+some_came : (before at : Option Bytes) (head : Head) (used came : Bytes) → LeftAfter before used at → SpellsHead used head → IfSome (said (first_state head.framing (limit_of head)) at) (λ t. IsPrefixOf came t.body) → CameAt before head came
+some_came before at head used came gone spelled is = head_at before at head used gone spelled (λ rest. IsPrefixOf came (body_of head rest).body) (of_mapped (told_from (first_state head.framing (limit_of head))) at (λ t. IsPrefixOf came t.body) is)
+
+-- it ended otherwise than with its last byte
+pub unfinished : (gives : ℕ → Type 0) (login : Bytes) (base : State Bytes) (h : History) (before at : LinkSide) (head : Head) (used : Bytes) → LeftAfter before.left used at.left → SpellsHead used head
+    → (engine engine' : EngineState) (moment : ℕ) (new : LinkSide) (d d' : ℕ) (M : State Bytes → History → History → Type 0) (seen seen' : Option Files) (e : Ending) → is_some seen' ≡ is_some seen
+    → ((base : State Bytes) (h : History) → IsCurrent seen engine base h → (k : History)
+    × Answers (answered.Unfinished e) (record { login = login; head = head; body = said (first_state head.framing (limit_of head)) at.left; moment = moment }) engine base h new.left seen' engine' k × M base h k)
+    → Over seen engine base h
+    → GrewBy (setting (is_some before.left) (is_some seen) gives login engine.log.limit base) AllCameAt (sides before h seen d engine) (sides new h seen' d' engine') × Over seen' engine' base h × (is_some seen ≡ true → M base h h)
+unfinished gives login base h before at head used gone spelled engine engine' moment new d d' M None None e told answers over =
+    let bytes : Bytes = body_said (said (first_state head.framing (limit_of head)) at.left) in (
+      (head, bytes, all_came before.left at.left head used bytes gone spelled (said_so (said (first_state head.framing (limit_of head)) at.left)), λ knows. absurd (true_is_false (sym knows))),
+      over_none engine' base h,
+      (λ knows. absurd (true_is_false (sym knows))),
+    )
+unfinished gives login base h before at head used gone spelled engine engine' moment new d d' M None (Some files') e told answers over = absurd (true_is_false told)
+unfinished gives login base h before at head used gone spelled engine engine' moment new d d' M (Some files) None e told answers over = absurd (true_is_false (sym told))
+unfinished gives login base h before at head used gone spelled engine engine' moment new d d' M (Some files) (Some files') e told answers over =
+    let a = answers base h (over files refl) in
+    let left = a.1.1 in (
+      (head, left.0, all_came before.left at.left head used left.0 gone spelled left.1, λ knows. left.2.grew),
+      (λ other is. left.2.current),
+      (λ knows. subst (λ (k : History). M base h k) a.1.0 a.2),
+    )
+
+-- the source failed
+pub unread : (gives : ℕ → Type 0) (login : Bytes) (base : State Bytes) (h : History) (before at : LinkSide) (head : Head) (used : Bytes) → LeftAfter before.left used at.left → SpellsHead used head
+    → (engine engine' : EngineState) (moment : ℕ) (new : LinkSide) (d d' : ℕ) (M : State Bytes → History → History → Type 0) (seen seen' : Option Files) → is_some seen' ≡ is_some seen
+    → ((base : State Bytes) (h : History) → IsCurrent seen engine base h → (k : History)
+    × Answers answered.SourceFault (record { login = login; head = head; body = said (first_state head.framing (limit_of head)) at.left; moment = moment }) engine base h new.left seen' engine' k × M base h k)
+    → Over seen engine base h
+    → GrewBy (setting (is_some before.left) (is_some seen) gives login engine.log.limit base) CameAt (sides before h seen d engine) (sides new h seen' d' engine') × Over seen' engine' base h × (is_some seen ≡ true → M base h h)
+unread gives login base h before at head used gone spelled engine engine' moment new d d' M None None told answers over = (
+  (head, [], some_came before.left at.left head used [] gone spelled (all_some (said (first_state head.framing (limit_of head)) at.left) (λ t. (t.body, refl))), λ knows. absurd (true_is_false (sym knows))),
+  over_none engine' base h,
+  (λ knows. absurd (true_is_false (sym knows))),
+)
+unread gives login base h before at head used gone spelled engine engine' moment new d d' M None (Some files') told answers over = absurd (true_is_false told)
+unread gives login base h before at head used gone spelled engine engine' moment new d d' M (Some files) None told answers over = absurd (true_is_false (sym told))
+unread gives login base h before at head used gone spelled engine engine' moment new d d' M (Some files) (Some files') told answers over =
+    let a = answers base h (over files refl) in
+    let left = a.1.1 in (
+      (head, left.0, some_came before.left at.left head used left.0 gone spelled left.1, λ knows. left.2.grew),
+      (λ other is. left.2.current),
+      (λ knows. subst (λ (k : History). M base h k) a.1.0 a.2),
+    )
+
+-- the place of a message whose body ends so
+pub has_body : (before at : Option Bytes) (head : Head) (used : Bytes) (e : Ending) → LeftAfter before used at → SpellsHead used head → IfSome (said (first_state head.framing (limit_of head)) at) (λ t. t.ending ≡ e) → IfSome before (λ bytes. HasBody bytes e)
+has_body before at head used e gone spelled is =
+    IfSome_then before (head_at before at head used gone spelled (λ rest. (body_of head rest).ending ≡ e) (of_mapped (told_from (first_state head.framing (limit_of head))) at (λ t. t.ending ≡ e) is))
+    (λ bytes x. record { head = head; rest = x.0; request = x.1; ends = x.2 })
+
+pub truncated_body : (bytes : Bytes) → HasBody bytes ending.Truncated → PlaceAt bytes Place.Truncated
+unfolding PlaceAt
+truncated_body bytes b = inr b
+
+pub bad_body : (bytes : Bytes) → HasBody bytes ending.Bad → PlaceAt bytes Place.Bad
+unfolding PlaceAt
+bad_body bytes b = inr b
+
+pub large_body : (bytes : Bytes) → HasBody bytes ending.TooLarge → PlaceAt bytes Place.TooLarge
+unfolding PlaceAt
+large_body bytes b = b
+
+-- ---- a request has one command at most
+
+module _ (limit : ℕ) (stamp : Stamp) (s : State Bytes) (c : Conditions) (used : ℕ) where
+  one_added : (b : Bool) (command : Command Bytes) (len : ℕ) (reply : Reply Bytes) (full : Answer Bytes) → length full.added ≤ 1 → length (add_if b command len reply full).added ≤ 1
+  one_added true command len reply full few = omega arith
+  one_added false command len reply full few = few
+
+  one_accepted : (d : Doing) (sum : Bytes) (len : ℕ) (o : Option (Command Bytes)) → length (accept length md5 limit stamp s c used d sum len o).added ≤ 1
+  one_accepted d sum len None = omega arith
+  one_accepted d sum len (Some command) = one_added (has_room limit s.count used len command) command len _ _ (omega arith)
+
+  one_by : (request : Request) (body sum : Bytes) (o : Option Refused) → length (answer_by length md5 limit stamp s c used request body sum o).added ≤ 1
+  one_by request body sum (Some r) = omega arith
+  one_by request body sum None = one_accepted request.doing sum _ (command_of s.rows request.doing body stamp.moment)
+
+one_command : (login : Bytes) (limit : ℕ) (s : State Bytes) (used : ℕ) (head : Head) (body : Bytes) (moment : ℕ) → length (answer_of login limit s used head body moment).added ≤ 1
+unfolding answer_of answer_in
+one_command login limit s used head body moment =
+    one_by limit (stamp_of head s.count moment) s (conditions_of head.fields) used (request_of login head) body (md5 body) (refusal_of length (request_of login head) s.rows (conditions_of head.fields) (Some (md5 body)))
+
+one_more : (h k added : History) → k ≡ h ++ added → length added ≤ 1 → length k ≤ length h + 1
+one_more h k added is few = let same : length k ≡ length (h ++ added) = ap length is in let all = length-append h added in omega (arith, same, all, few)
+
+-- a disk that told nothing stands for any history
+untold : (seen : Option Files) (engine : EngineState) (base : State Bytes) (h : History) → is_some seen ≡ false → Over seen engine base h
+untold None engine base h none = over_none engine base h
+untold (Some files) engine base h none = absurd (true_is_false none)
+
+-- the disk failed: nothing stands, or the command of the message
+pub disk_failed : (gives : ℕ → Type 0) (login : Bytes) (base : State Bytes) (h : History) (before at : LinkSide) (head : Head) (used : Bytes) → LeftAfter before.left used at.left → SpellsHead used head
+    → (engine engine' : EngineState) (moment : ℕ) (new : LinkSide) (d d' : ℕ) (M : State Bytes → History → History → Type 0) (seen seen' : Option Files) → gives moment → (at.left ≡ None → new.left ≡ None) → (engine'.log.closed ≡ false → is_some seen' ≡ is_some seen)
+    → GotMore before.got (interim head) new.got
+    → ((base : State Bytes) (h : History) → IsCurrent seen engine base h → (k : History)
+    × Answers answered.Disk (record { login = login; head = head; body = said (first_state head.framing (limit_of head)) at.left; moment = moment }) engine base h new.left seen' engine' k × M base h k)
+    → Over seen engine base h
+    → (k : History) × (Cut (setting (is_some before.left) (is_some seen) gives login engine.log.limit base) (sides before h seen d engine) (sides new k seen' d' engine') h ⊎ Unanswered (sides before h seen d engine) (sides new k seen' d' engine') h)
+    × IsPrefixOf h k × (length k ≤ length h + 1) × (is_some seen ≡ true → M base h k) × (engine'.log.closed ≡ false → Over seen' engine' base k)
+disk_failed gives login base h before at head used gone spelled engine engine' moment new d d' M None seen' given none told sink answers over = (
+  h,
+  inr (unanswered before.left at.left head used gone spelled (sides before h None d engine) (sides new h seen' d' engine') refl sink refl).0,
+  all_of h,
+  omega arith,
+  (λ knows. absurd (true_is_false (sym knows))),
+  (λ is_open. untold seen' engine' base h (told is_open)),
+)
+disk_failed gives login base h before at head used gone spelled engine engine' moment new d d' M (Some files) seen' given none told sink answers over =
+    let a = answers base h (over files refl) in
+    by_stand a.0 a.1.1 a.2
+  where
+    by_stand : (k : History) → (k ≡ h) ⊎ MayStand (record { login = login; head = head; body = said (first_state head.framing (limit_of head)) at.left; moment = moment }) engine base h new.left k → M base h k
+        → (k : History) × (Cut (setting (is_some before.left) true gives login engine.log.limit base) (sides before h (Some files) d engine) (sides new k seen' d' engine') h ⊎ Unanswered (sides before h (Some files) d engine) (sides new k seen' d' engine') h)
+        × IsPrefixOf h k × (length k ≤ length h + 1) × (true ≡ true → M base h k) × (engine'.log.closed ≡ false → Over seen' engine' base k)
+    by_stand k (inl same) m = (
+      h,
+      inr (unanswered before.left at.left head used gone spelled (sides before h (Some files) d engine) (sides new h seen' d' engine') refl sink refl).0,
+      all_of h,
+      omega arith,
+      (λ knows. subst (λ (x : History). M base h x) same m),
+      (λ is_open. absurd (true_is_false (sym (answers base h (over files refl)).1.0 ∙ is_open))),
+    )
+    by_stand k (inr stood) m =
+        let o : Option Told = said (first_state head.framing (limit_of head)) at.left in
+        let read = message_read before.left at.left new.left head used gone spelled (IfSome_then o stood.whole (λ t w. (w.1, w.2))) none in (
+          k,
+          inl (record {
+            read = read.0;
+            head = head;
+            body = stood.bytes;
+            moment = moment;
+            answer = answer_of login engine.log.limit (replay base h) (engine.log.gate + 1) head stood.bytes moment;
+            written = [];
+            is_read = read.2 stood.bytes (IfSome_then o stood.whole (λ t w. w.0));
+            source = read.1;
+            given = given;
+            answered = refl;
+            front = (_, refl);
+            sink = subst (λ (bytes : Bytes). GotMore before.got bytes new.got) (sym (append-nil (interim head))) sink;
+            history = stood.history;
+            told = refl;
+          }),
+          (_, sym stood.history),
+          one_more h k _ stood.history (one_command login engine.log.limit (replay base h) (engine.log.gate + 1) head stood.bytes moment),
+          (λ knows. m),
+          (λ is_open. absurd (true_is_false (sym (answers base h (over files refl)).1.0 ∙ is_open))),
+        )
+
+-- memory was wanting: nothing was added
+pub no_memory : (base : State Bytes) (h : History) (asked : Asked) (engine engine' : EngineState) (left' : Option Bytes) (M : State Bytes → History → History → Type 0) (seen seen' : Option Files)
+    → (engine'.log.closed ≡ false → is_some seen' ≡ is_some seen)
+    → ((base : State Bytes) (h : History) → IsCurrent seen engine base h → (k : History) × Answers answered.Memory asked engine base h left' seen' engine' k × M base h k)
+    → Over seen engine base h → (engine'.log.closed ≡ false → Over seen' engine' base h) × (is_some seen ≡ true → M base h h)
+no_memory base h asked engine engine' left' M None None told answers over = ((λ is_open. over_none engine' base h), (λ knows. absurd (true_is_false (sym knows))))
+no_memory base h asked engine engine' left' M None (Some files') told answers over = ((λ is_open. absurd (true_is_false (told is_open))), (λ knows. absurd (true_is_false (sym knows))))
+no_memory base h asked engine engine' left' M (Some files) seen' told answers over =
+    let a = answers base h (over files refl) in
+    ((λ is_open other is. a.1.1 is_open), (λ knows. subst (λ (k : History). M base h k) a.1.0 a.2))
+
+-- what a reply shows stands in the log
+pub can_be_read : (seen : Option Files) (engine : EngineState) (b : ReplyBody Body) → Shows b seen engine → CanBeRead seen b
+can_be_read seen engine (Held held) shows = tt
+can_be_read seen engine (Part body from to) shows = (shows.order, shows.within, λ ps is. (shows.stored ps is).pieces)
+
+-- what was answered is no fault of the disk, and needed no more memory
+pub not_disk : (reply : Reply Body) → answered.Replied reply ≡ answered.Disk → ⊥
+not_disk reply is = cc
+
+pub not_memory : (reply : Reply Body) → answered.Replied reply ≡ answered.Memory → ⊥
+not_memory reply is = cc
+
+pub unfinished_not_disk : (e : Ending) → answered.Unfinished e ≡ answered.Disk → ⊥
+unfinished_not_disk e is = cc
+
+pub unfinished_not_memory : (e : Ending) → answered.Unfinished e ≡ answered.Memory → ⊥
+unfinished_not_memory e is = cc
+
+pub fault_not_disk : answered.SourceFault ≡ answered.Disk → ⊥
+fault_not_disk is = cc
+
+pub fault_not_memory : answered.SourceFault ≡ answered.Memory → ⊥
+fault_not_memory is = cc
+
+-- what is promised of a request whose body stands so before its source, over each history
+abbrev pub AnswersAt : Answered → BodyState → Bytes → Head → ℕ → (left left' : Option Bytes) (seen seen' : Option Files) (engine engine' : EngineState) → (State Bytes → History → History → Type 0) → Type 0
+AnswersAt result framer login head moment left left' seen seen' engine engine' M =
+    (base : State Bytes) (h : History) → IsCurrent seen engine base h → (k : History) × Answers result (record { login = login; head = head; body = said framer left; moment = moment }) engine base h left' seen' engine' k × M base h k
+
+-- how the body ended
+pub ends_so : (o : Option Told) (e : Ending) (left' : Option Bytes) → IfSome o (λ t. Hears (answered.Unfinished e) t left') → IfSome o (λ t. t.ending ≡ e)
+ends_so None e left' heard = tt
+ends_so (Some t) e left' heard = heard.0

@@ -1,0 +1,44 @@
+-- Sending a reply whose body is a part of one in the log.
+use Rattle.std.proofs.Common.{◌≡◌, ℕ, ◌-◌, ◌≤◌, List, [], ◌++◌, length, take, drop, replicate, Option, Some, None, Bool, true, ap, sym, ◌∙◌, arith, append-nil, append_assoc, length-append, cond}
+use Rattle.std.proofs.lemmas.List.{length-drop, length-replicate, length-take-le}
+use Rattle.mt_body.specs.Stored.{bytes_of}
+use Rattle.mt_body.proofs.Keeping.{length-bytes_of}
+use Rattle.mt_disk.specs.Files.{Files}
+use Rattle.mt_edge.specs.Stream.{WritesFront}
+use Rattle.mt_engine.specs.History.{Bytes}
+use Rattle.mt_http.specs.ReplyText.{head_text}
+use Rattle.mt_http.specs.declared.message.Head.{Head}
+use Rattle.mt_log.specs.LogImage.{payloads_of}
+use Rattle.mt_types.specs.declared.body.Body.{Body}
+use Rattle.mt_types.specs.declared.reply.Reply.{Reply}
+use Rattle.mt_types.specs.declared.reply.ReplyBody.TheVariants.{Part}
+use Rattle.mt_connection.specs.Steps.{IsBodyOf, text_to}
+use Rattle.mt_connection.specs.Transcript.{is_bare}
+
+abbrev or_none : Option (List (List ℕ)) → List (List ℕ)
+or_none None = []
+or_none (Some ps) = ps
+
+-- a part has so many bytes
+pub some_bytes : (seen : Option Files) (body : Body) (from to : ℕ) → from ≤ to → to ≤ body.len → (bytes : Bytes) × IsBodyOf seen (Part body from to) bytes
+some_bytes None body from to order within = (replicate (to - from) 0, (length-replicate (to - from) 0, λ ps is. let no : None ≡ Some ps = is in absurd (cc)))
+some_bytes (Some files) body from to order within =
+    let all = length-bytes_of (payloads_of files) body in
+    let behind = length-drop from (bytes_of (payloads_of files) body) in
+    let fits : to - from ≤ length (drop from (bytes_of (payloads_of files) body)) = omega (arith, all, behind, order, within) in
+    (take (to - from) (drop from (bytes_of (payloads_of files) body)), (length-take-le (to - from) (drop from (bytes_of (payloads_of files) body)) fits, λ ps is. ap (λ qs. take (to - from) (drop from (bytes_of (or_none qs) body))) is))
+
+-- a front of a text is one of what goes on from it
+pub front_of_more : (got : Option Bytes) (text more : Bytes) (got' : Option Bytes) → WritesFront got text got' → WritesFront got (text ++ more) got'
+front_of_more got text more got' w = record {
+  written = w.written;
+  front = (w.front.0 ++ more, sym (append_assoc w.written w.front.0 more) ∙ ap (λ (t : Bytes). t ++ more) w.front.1);
+  short = let all = length-append text more in let few = w.short in omega (arith, all, few);
+  grew = w.grew;
+}
+
+-- the text of a reply that has no body
+pub bare_text : (reply : Reply Body) (bytes : Bytes) (head : Head) (n : ℕ) → length bytes ≡ n → is_bare reply.status head ≡ true → text_to reply bytes head ≡ head_text reply.status reply.fields reply.closes n
+bare_text reply bytes head n size bare =
+    ap (λ (b : Bool). head_text reply.status reply.fields reply.closes (length bytes) ++ cond {A = List ℕ} b [] bytes) bare
+    ∙ (append-nil (head_text reply.status reply.fields reply.closes (length bytes)) ∙ ap (head_text reply.status reply.fields reply.closes) size)

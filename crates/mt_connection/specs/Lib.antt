@@ -1,0 +1,5 @@
+pub mod Sides
+pub mod Transcript
+pub mod Endings
+pub mod Outcomes
+pub mod Steps

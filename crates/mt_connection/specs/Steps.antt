@@ -1,0 +1,78 @@
+-- What the parts of one exchange do: a head is read, a reply is sent, a refusal is written; and the whole of it.
+use Rattle.std.specs.Prelude.{◌≡◌, ℕ, ◌-◌, ◌<◌, ◌≤◌, Bool, true, [], ◌∷◌, length, take, drop, Option, Err}
+use Rattle.std.specs.Option.{ForSome}
+use Rattle.mt_base.specs.Counts.{NeverFell, Rose}
+use Rattle.mt_body.specs.Stored.{bytes_of, is_stored}
+use Rattle.mt_disk.specs.Files.{Files}
+use Rattle.mt_edge.specs.Stream.{GotMore, LeftAfter, WritesFront}
+use Rattle.mt_engine.specs.History.{Bytes, History}
+use Rattle.mt_http.specs.Framing.{ReceivesHead, SpellsHead}
+use Rattle.mt_http.specs.Options.{interim, interim_line, wants_interim}
+use Rattle.mt_http.specs.ReplyText.{text_with}
+use Rattle.mt_http.specs.declared.message.Head.{Head}
+use Rattle.mt_log.specs.LogState.{told}
+use Rattle.mt_types.specs.declared.body.Body.{Body}
+use Rattle.mt_types.specs.declared.reply.Reply.{Reply}
+use Rattle.mt_types.specs.declared.reply.ReplyBody.{ReplyBody}
+use Rattle.mt_types.specs.declared.reply.ReplyBody.TheVariants.{Held, Part}
+use Rattle.mt_connection.specs.Endings.{Ends, Images}
+use Rattle.mt_connection.specs.Sides.{LinkSide, NoneFell, Sides}
+use Rattle.mt_connection.specs.Transcript.{Exchange, Ran, Setting, closing, is_head}
+use Rattle.mt_connection.specs.declared.end.ConnectionEnd.TheVariants as ended
+use Rattle.mt_connection.specs.declared.end.Step.{Step}
+use Rattle.mt_connection.specs.declared.end.Step.TheVariants as step
+use Rattle.mt_connection.specs.declared.receive.Received.{Received}
+use Rattle.mt_connection.specs.declared.receive.Received.TheVariants as received
+
+-- These are the bytes of the body of a reply. Where the disk tells nothing, of a part only how many.
+abbrev pub IsBodyOf : Option Files → ReplyBody Body → Bytes → Type 0
+IsBodyOf seen (Held held) bytes = bytes ≡ held
+IsBodyOf seen (Part body from to) bytes = (length bytes ≡ to - from) × ForSome (told seen) (λ ps. bytes ≡ take (to - from) (drop from (bytes_of ps body)))
+
+-- a part lies in a body that stands in the log
+abbrev pub CanBeRead : Option Files → ReplyBody Body → Type 0
+CanBeRead seen (Held held) = Unit {0}
+CanBeRead seen (Part body from to) = (from ≤ to) × (to ≤ body.len) × ForSome (told seen) (λ ps. is_stored ps body ≡ true)
+
+-- the bytes of a reply to this head whose body has these bytes
+abbrev pub text_to : Reply Body → Bytes → Head → Bytes
+text_to reply body head = text_with reply.status reply.fields reply.closes body (is_head head)
+
+-- The sending of this text, as the last of an exchange after which the connection closes or goes on: all of it was written, or a
+-- front of it before a fault, or for want of memory nothing.
+abbrev pub Sends : Bool → Bytes → Step → (got got' : Option Bytes) → (write_faults write_faults' disk_faults disk_faults' : ℕ) → Type 0
+Sends closing text (step.Went closed) got got' w w' d d' = (closed ≡ closing) × GotMore got text got' × NeverFell w w' × NeverFell d d'
+Sends closing text (step.Over ended.SinkFault) got got' w w' d d' = WritesFront got text got' × Rose w w' × NeverFell d d'
+Sends closing text (step.Over ended.Disk) got got' w w' d d' = WritesFront got text got' × NeverFell w w' × Rose d d'
+Sends closing text (step.Over ended.Memory) got got' w w' d d' = (got' ≡ got) × NeverFell w w' × NeverFell d d'
+Sends closing text _ got got' w w' d d' = ⊥
+
+-- the writing of a refusal
+abbrev pub Refuses : Bytes → Step → (got got' : Option Bytes) → (write_faults write_faults' : ℕ) → Type 0
+Refuses text (step.Over ended.Refused) got got' w w' = GotMore got text got' × NeverFell w w'
+Refuses text (step.Over ended.SinkFault) got got' w w' = WritesFront got text got' × Rose w w'
+Refuses text (step.Over ended.Memory) got got' w w' = (got' ≡ got) × NeverFell w w'
+Refuses text _ got got' w w' = ⊥
+
+-- the reading of a head, and the interim reply behind it
+abbrev pub Receives : Received → LinkSide → LinkSide → Type 0
+Receives (received.Head head) old new =
+    ((read : Bytes) × LeftAfter old.left read new.left × SpellsHead read head) × GotMore old.got (interim head) new.got
+    × NeverFell old.read_faults new.read_faults × NeverFell old.write_faults new.write_faults
+Receives (received.Nothing end) old new =
+    ReceivesHead old.left old.read_faults (Err end) new.left new.read_faults × (new.got ≡ old.got) × (new.write_faults ≡ old.write_faults)
+Receives received.SinkFault old new =
+    ((head : Head) × (wants_interim head ≡ true) × (read : Bytes) × LeftAfter old.left read new.left × SpellsHead read head) × WritesFront old.got interim_line new.got
+    × NeverFell old.read_faults new.read_faults × Rose old.write_faults new.write_faults
+
+-- One step of a connection: a whole exchange, or the end. Images are what a crash may leave, where the disk tells what it holds.
+abbrev pub Stepped : Setting → (Files → Type 0) → Sides → Step → Sides → Type 0
+Stepped s images old (step.Went closed) new = (x : Exchange) × (closing x ≡ closed) × Ran s old (x ∷ []) new
+Stepped s images old (step.Over end) new =
+    (named : History) × ((most : ℕ) → 0 < most → Ends s most [] old end new named) × NoneFell old new × (s.knows ≡ true → Images end s.base new.history named images)
+
+-- a head has no more fields than this
+abbrev pub HasFewFields : Received → Type 0
+HasFewFields (received.Head head) = length head.fields ≤ 100
+HasFewFields (received.Nothing end) = Unit {0}
+HasFewFields received.SinkFault = Unit {0}

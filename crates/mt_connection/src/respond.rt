@@ -1,0 +1,140 @@
+//! The reply to a message.
+ghost use Rattle.std.specs.Prelude.{◌≡◌, ◌≤◌, ◌<◌, ◌-◌, ◌++◌, ℕ, List, Option, true, false, length, IfOk};
+ghost use Rattle.std.specs.Option.{ForSome};
+ghost use Rattle.mt_base.specs.Counts.{NeverFell, Rose};
+ghost use Rattle.mt_body.specs.Sending as part;
+ghost use Rattle.mt_body.specs.Stored.{is_stored};
+ghost use Rattle.mt_disk.specs.CrashModel.{OnlyRead};
+ghost use Rattle.mt_edge.specs.Stream.{GotMore};
+ghost use Rattle.mt_engine.specs.History.{Bytes};
+ghost use Rattle.mt_http.specs.Options as options;
+ghost use Rattle.mt_http.specs.ReplyText.{head_text};
+ghost use Rattle.mt_http.specs.ReplyWriting.{WritesText};
+ghost use Rattle.mt_log.specs.LogState.{IsThere, Stands, told};
+ghost use Rattle.mt_types.specs.declared.reply.ReplyBody.TheVariants.{Part};
+ghost use Rattle.mt_connection.specs.Steps.{CanBeRead, IsBodyOf, Sends, text_to};
+ghost use Rattle.mt_connection.specs.Transcript as words;
+
+use crate::end::{ConnectionEnd, Step};
+use mt_body::Sent;
+use mt_disk::Disk;
+use mt_edge::Sink;
+use mt_engine::Engine;
+use mt_http::{Head, ReplyEnd, closes, write_head, write_reply};
+use mt_types::{Body, Reply, ReplyBody};
+use std::alloc::{AllocError, Global};
+
+/// A part of a body is sent by pieces of at most so many bytes.
+const PIECE: u64 = 65_536;
+
+fn is_head(head: &Head) -> bool
+    ensures { result ≡ words.is_head head.now }
+{
+    head.method.as_str() == "HEAD"
+}
+
+fn zeros(alloc: Global, len: usize) -> Result<Vec<u8>, AllocError>
+    ensures { IfOk result (λ v. length v.items ≡ len) }
+{
+    let mut bytes = Vec::with_capacity(alloc, len)?;
+    bytes.resize(len, 0)?;
+    Ok(bytes)
+}
+
+// What the writing of a whole text makes of its exchange.
+fn step_of(wrote: Result<(), ReplyEnd>, closing: bool) -> Step
+    ensures { (text : Bytes) (got got' : Option Bytes) (w w' d : ℕ) → WritesText got w text wrote got' w' → Sends closing text result got got' w w' d d }
+{
+    match wrote {
+        Ok(()) => Step::Went(closing),
+        Err(ReplyEnd::SinkFault) => Step::Over(ConnectionEnd::SinkFault),
+        Err(ReplyEnd::Memory) => Step::Over(ConnectionEnd::Memory),
+    }
+}
+
+// What the sending of a body behind its head makes of their exchange.
+fn step_of_body(sent: Sent, closing: bool) -> Step
+    ensures { (head body : Bytes) (got mid got' : Option Bytes) (w v w' d d' : ℕ) → GotMore got head mid → NeverFell w v → part.Sends sent body mid got' v w' →
+        (sent ≡ Sent.Disk → Rose d d') → NeverFell d d' → Sends closing (head ++ body) result got got' w w' d d' }
+{
+    match sent {
+        Sent::Whole => Step::Went(closing),
+        Sent::SinkFault => Step::Over(ConnectionEnd::SinkFault),
+        Sent::Disk => Step::Over(ConnectionEnd::Disk),
+    }
+}
+
+// Whether the reply of this status to this head has no body (RFC 9110, section 6.4.1).
+fn is_bare(status: u16, head: &Head) -> bool
+    ensures { result ≡ words.is_bare status head.now }
+{
+    is_head(head) || status == 204 || status == 304
+}
+
+// Sends a reply whose body is a part of one in the log. The buffer is taken before anything is written.
+fn send_part<D: Disk, K: Sink>(
+    alloc: Global,
+    engine: &Engine,
+    disk: &mut D,
+    sink: &mut K,
+    reply: &Reply<Body>,
+    body: &Body,
+    from: u64,
+    to: u64,
+    closing: bool,
+) -> Step
+    requires there { IsThere D.seen disk.old engine.now.log }
+    requires is_open { engine.now.log.closed ≡ false }
+    requires part { (from ≤ to) × (to ≤ body.now.len) }
+    requires stored { ForSome (told (D.seen disk.old)) (λ ps. is_stored ps body.now ≡ true) }
+    ensures sends { (bytes : Bytes) × IsBodyOf (D.seen disk.old) (Part body.now from to) bytes × Sends closing (head_text reply.now.status reply.now.fields reply.now.closes (to - from) ++ bytes) result
+        (K.got sink.old) (K.got sink.new) (K.write_faults sink.old) (K.write_faults sink.new) (D.faults disk.old) (D.faults disk.new) }
+    ensures read { OnlyRead D.seen D.may_leave D.moment D.left_since disk.old disk.new }
+    ensures stands { Stands D.seen D.may_leave disk.old engine.now.log → Stands D.seen D.may_leave disk.new engine.now.log }
+    ensures stays { K.sink_stays sink.old sink.new }
+{
+    let size = to - from;
+    let mut buffer = match zeros(alloc, size.clamp(1, PIECE) as usize) {
+        Ok(buffer) => buffer,
+        Err(AllocError) => return Step::Over(ConnectionEnd::Memory),
+    };
+    match write_head(alloc, sink, reply, size) {
+        Ok(()) => {
+            let sent = engine.send_body(disk, sink, body, from, to, buffer.as_mut_slice());
+            step_of_body(sent, closing)
+        }
+        Err(ReplyEnd::SinkFault) => Step::Over(ConnectionEnd::SinkFault),
+        Err(ReplyEnd::Memory) => Step::Over(ConnectionEnd::Memory),
+    }
+}
+
+/// Sends a reply: its head, and its body unless the request is a HEAD or the status has none.
+pub(crate) fn respond<D: Disk, K: Sink>(
+    alloc: Global,
+    engine: &Engine,
+    disk: &mut D,
+    sink: &mut K,
+    reply: &Reply<Body>,
+    head: &Head,
+) -> Step
+    requires there { IsThere D.seen disk.old engine.now.log }
+    requires is_open { engine.now.log.closed ≡ false }
+    requires shown { CanBeRead (D.seen disk.old) reply.now.body }
+    ensures sends { (body : Bytes) × IsBodyOf (D.seen disk.old) reply.now.body body × Sends (options.closes head.now.minor head.now.fields) (text_to reply.now body head.now) result
+        (K.got sink.old) (K.got sink.new) (K.write_faults sink.old) (K.write_faults sink.new) (D.faults disk.old) (D.faults disk.new) }
+    ensures read { OnlyRead D.seen D.may_leave D.moment D.left_since disk.old disk.new }
+    ensures stands { Stands D.seen D.may_leave disk.old engine.now.log → Stands D.seen D.may_leave disk.new engine.now.log }
+    ensures stays { K.sink_stays sink.old sink.new }
+{
+    let closing = closes(head.minor, head.fields.as_slice());
+    match &reply.body {
+        ReplyBody::Held(_) => step_of(write_reply(alloc, sink, reply, is_head(head)), closing),
+        ReplyBody::Part { body, from, to } => {
+            if is_bare(reply.status, head) {
+                step_of(write_head(alloc, sink, reply, to - from), closing)
+            } else {
+                send_part(alloc, engine, disk, sink, reply, body, *from, *to, closing)
+            }
+        }
+    }
+}
