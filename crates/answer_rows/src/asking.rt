@@ -41,9 +41,7 @@ pub fn put_answer(
     };
     let mut body = BodyStream::new(&mut source, &head, limit_of(&head));
     match answer(alloc, "l", engine, disk, &head, &mut body, moment) {
-        Answered::Replied(reply) => {
-            put_reply(alloc, disk, engine, &head, &reply, form, out)
-        }
+        Answered::Replied(reply) => { put_reply(alloc, disk, engine, &head, &reply, form, out) }
         Answered::Unfinished(ending) => {
             write!(out, "{ending:?}")?;
             put_after(engine, out)

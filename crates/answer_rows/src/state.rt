@@ -60,12 +60,7 @@ impl Store {
         disk.fail(Vec::new(alloc));
         match Engine::open(alloc, disk, limit) {
             Ok(engine) => {
-                write!(
-                    out,
-                    "log {}, position {}",
-                    engine.used(),
-                    engine.position()
-                )?;
+                write!(out, "log {}, position {}", engine.used(), engine.position())?;
                 self.engine = Some(engine);
             }
             Err(end) => write!(out, "{end:?}")?,
@@ -110,9 +105,10 @@ impl Store {
             bytes.extend_from_slice(row.bytes(field)?)?;
             bytes.extend_from_slice(b"\r\n")?;
         }
-        bytes.extend_from_slice(
-            format!(in alloc; "Content-Length: {}\r\n\r\n", body.len())?.as_bytes(),
-        )?;
+        bytes.extend_from_slice(format!(in alloc;
+            "Content-Length: {}\r\n\r\n",
+            body.len()
+        )?.as_bytes())?;
         bytes.extend_from_slice(body)?;
         self.request = bytes;
         Ok(())
@@ -123,8 +119,9 @@ impl Store {
         let (Some(disk), Some(engine)) = (&mut self.disk, &mut self.engine) else {
             return Err(Stop::NoSuchRow);
         };
-        let source = MemSource::new(alloc, Vec::from_slice(alloc, &self.request)?)
-            .failing(Vec::from_slice(alloc, &self.reads_fail)?);
+        let source = MemSource::new(alloc, Vec::from_slice(alloc, &self.request)?).failing(
+            Vec::from_slice(alloc, &self.reads_fail)?,
+        );
         self.request.clear();
         self.reads_fail.clear();
         put_answer(alloc, disk, engine, source, self.moment, form, out)
