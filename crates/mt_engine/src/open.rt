@@ -1,5 +1,5 @@
 //! Opening the log of a disk, and the state that it stands for.
-ghost use Rattle.std.specs.Prelude.{◌≡◌, Err, false, IfOk, OnOk, IsErrOf};
+ghost use Rattle.std.specs.Prelude.{◌≡◌, Err, false, is_some, IfOk, OnOk, IsErrOf};
 ghost use Rattle.std.specs.Option.{ForSome};
 ghost use Rattle.mt_base.specs.Counts.{NeverFell, Rose};
 ghost use Rattle.mt_disk.specs.CrashModel.{IsAtRest, LeavesOnly};
@@ -29,6 +29,8 @@ fn open_log<D: Disk>(alloc: Global, disk: &mut D, limit: u64) -> Result<(Log, Ac
     ensures live { IfOk result (λ e. e.0.closed ≡ false) }
     ensures version { IfOk result (λ e. e.0.is_old ≡ false) }
     ensures stands { IfOk result (λ e. Stands D.seen D.may_leave disk.new e.0) }
+    // A disk that told what it held tells it still.
+    ensures tells { OnOk result (is_some (D.seen disk.new) ≡ is_some (D.seen disk.old)) }
     // Only what can be read is opened, and what is refused is refused for its first fault, and stays.
     ensures opened { OnOk result (ForSome (D.seen disk.old) IsReadable) }
     ensures refused { (why : Unreadable) → result ≡ Err (OpenEnd.Unreadable why) →
@@ -59,6 +61,8 @@ impl Engine {
         ensures live { IfOk result (λ e. e.log.closed ≡ false) }
         ensures version { IfOk result (λ e. e.log.is_old ≡ false) }
         ensures stands { IfOk result (λ e. Stands D.seen D.may_leave disk.new e.log) }
+        // A disk that told what it held tells it still.
+        ensures tells { OnOk result (is_some (D.seen disk.new) ≡ is_some (D.seen disk.old)) }
         // Only what can be read is opened, and what is refused is refused for its first fault, and stays.
         ensures opened { OnOk result (ForSome (D.seen disk.old) IsReadable) }
         ensures refused { (why : Unreadable) → result ≡ Err (OpenEnd.Unreadable why) →

@@ -1,5 +1,6 @@
 //! What the words of the command line ask for.
-ghost use Rattle.std.specs.Prelude.{◌≡◌, ◌+◌, ◌<◌, ◌^◌, IfOk, OnOk, Ok, Err, codes, map, string_bytes};
+ghost use Rattle.std.specs.Prelude.{◌≡◌, ◌+◌, ◌<◌, ◌≤◌, ◌^◌, IfOk, IfSome, OnOk, Ok, Err, codes, map, string_bytes};
+ghost use Rattle.mt_base.specs.declared.limits.TheConstants.{LAST_MOMENT};
 ghost use Rattle.mt_settings.specs.Words.{given_or, lonely, mode_by, no_option, option_named, options_from, serves_by, settings_by, settings_of, tasks_in, with_named};
 
 use crate::fault::{OptionFault, OptionName, SettingsError, UsageFault};
@@ -100,6 +101,7 @@ fn lonely(serves: bool, place: usize, name: &str) -> UsageFault
 fn read_options(alloc: Global, serves: bool, words: &[String]) -> Result<Given, SettingsError>
     ensures ok { IfOk result (λ given. options_from serves no_option 0 (map string_bytes words.now) ≡ Ok given) }
     ensures usage { (fault : UsageFault) → result ≡ Err (SettingsError.Usage fault) → options_from serves no_option 0 (map string_bytes words.now) ≡ Err fault }
+    ensures moment { IfOk result (λ given. IfSome given.at (λ moment. moment ≤ LAST_MOMENT)) }
 {
     let mut given = Given::none();
     let mut place = 0;
@@ -176,6 +178,7 @@ fn helper_or(alloc: Global, helper: Option<Text>) -> Result<Text, AllocError>
 fn settings_from(alloc: Global, serves: bool, given: Given) -> Result<Settings, SettingsError>
     ensures ok { IfOk result (λ s. settings_by serves (Ok given) ≡ Ok s) }
     ensures usage { (fault : UsageFault) → result ≡ Err (SettingsError.Usage fault) → settings_by serves (Ok given) ≡ Err fault }
+    ensures at { IfOk result (λ s. s.at ≡ given.at) }
 {
     let Given {
         login,
@@ -218,6 +221,8 @@ impl Settings {
     pub fn read(alloc: Global, words: &[String]) -> Result<Settings, SettingsError>
         ensures ok { IfOk result (λ s. settings_of (map string_bytes words.now) ≡ Ok s) }
         ensures usage { (fault : UsageFault) → result ≡ Err (SettingsError.Usage fault) → settings_of (map string_bytes words.now) ≡ Err fault }
+        // A moment that is given is one that a clock has.
+        ensures moment { IfOk result (λ s. IfSome s.at (λ moment. moment ≤ LAST_MOMENT)) }
     {
         let [command, options @ ..] = words else {
             return Err(SettingsError::Usage(UsageFault::NoCommand));

@@ -1,5 +1,5 @@
 -- The log was opened, and then read.
-use Rattle.std.proofs.Common.{◌≡◌, ap, refl, sym, ◌∙◌, Err}
+use Rattle.std.proofs.Common.{◌≡◌, ap, refl, sym, ◌∙◌, Err, is_some}
 use Rattle.mt_engine.specs.declared.opening.OpenEnd.TheVariants as OpenEnd
 use Rattle.mt_engine.proofs.Openings.{opened_current, opened_readable, refusal_is, refusal_not_disk, refused_before, refused_log}
 use Rattle.mt_engine.proofs.open.open_log.Goals as goal
@@ -30,3 +30,6 @@ returns-in-Err-clause-refused g c why is =
     let end = sym c.refused.ensures ∙ same in
     refused_log d.seen d.may_leave d.moment d.left_since c.args.disk.now c.open.new.disk c.open.new.disk why (c.in-Err.ensures.settled (λ e. refusal_not_disk c.in-Err.error why end (cc)))
     (λ files seen_is. refusal_is c.in-Err.error why files (c.in-Err.ensures.answer files seen_is) end)
+
+pub returns-in-Ok-load-clause-tells : goal.returns-in-Ok-load-clause-tells
+returns-in-Ok-load-clause-tells g c = ap is_some c.load.ensures.read.seen_same ∙ c.in-Ok.ensures.tells (λ e. cc e)
