@@ -10,36 +10,35 @@ use std::alloc::{AllocError, Global};
 
 /// Answers a row by the copy of the value that it makes.
 pub fn answer(alloc: Global, row: &Row, out: &mut String) -> Result<(), Stop> {
-    match row.call() {
-        b"body" => put_copy(alloc, body_at(row, 1)?, out),
-        b"size" => {
-            write!(out, "{}", body_at(row, 1)?.size())?;
-            Ok(())
-        }
-        b"object" => put_copy(alloc, object_of(alloc, row)?, out),
-        b"directory" => put_copy(alloc, directory_of(alloc, row)?, out),
+    match row.text(0)? {
+        "body" => put_copy(alloc, body_at(row, 1)?, "", out),
+        "size" => Ok(write!(out, "{}", body_at(row, 1)?.size())?),
+        "object" => put_copy(alloc, object_of(alloc, row)?, "", out),
+        "directory" => put_copy(alloc, directory_of(alloc, row)?, "", out),
         _ => answer_at_job(alloc, row, out),
     }
 }
 
 fn answer_at_job(alloc: Global, row: &Row, out: &mut String) -> Result<(), Stop> {
-    match row.call() {
-        b"job" => put_copy(alloc, job_of(alloc, row)?, out),
-        b"upload" => put_copy(alloc, upload_of(alloc, row)?, out),
-        b"raw" => put_copy(alloc, raw_of(alloc, row)?, out),
-        b"reply" => put_copy(alloc, reply_of(alloc, row)?, out),
+    match row.text(0)? {
+        "job" => put_copy(alloc, job_of(alloc, row)?, "", out),
+        "upload" => put_copy(alloc, upload_of(alloc, row)?, "", out),
+        "raw" => put_copy(alloc, raw_of(alloc, row)?, "", out),
+        "reply" => put_copy(alloc, reply_of(alloc, row)?, "", out),
         _ => Err(Stop::NoSuchRow),
     }
 }
 
-fn put_copy<T: Duplicate + Drop + Show>(
+/// Appends what stands before it and the text of a value's copy.
+pub fn put_copy<T: Duplicate + Drop + Show>(
     alloc: Global,
     value: T,
+    before: &str,
     out: &mut String,
 ) -> Result<(), Stop> {
+    out.push_str(before)?;
     let copy = value.copy(alloc)?;
-    copy.show(out)?;
-    Ok(())
+    Ok(copy.show(out)?)
 }
 
 // A path of the login `l`.
@@ -75,22 +74,28 @@ fn one<T: Drop>(alloc: Global, value: T) -> Result<Sequence<T>, Stop> {
 
 // `object PATH FIRST LENGTH NUMBER TYPE DURABILITY NAME VALUE MTIME`
 fn object_of(alloc: Global, row: &Row) -> Result<mt_types::Row<Body>, Stop> {
-    let field = Field {
-        name: text_at(alloc, row, 7)?,
-        value: bytes_at(alloc, row, 8)?,
-    };
-    let object = Object {
-        number: row.number(4)?,
-        body: body_at(row, 2)?,
-        content_type: text_at(alloc, row, 5)?,
-        durability: row.text(6)?.parse::<u8>().ok(),
-        metadata: one(alloc, field)?,
-        mtime: row.number(9)?,
-    };
-    Ok(mt_types::Row {
-        path: path_at(alloc, row, 1)?,
-        entry: Entry::Object(object),
-    })
+    let number = row.number(4)?;
+    let mtime = row.number(9)?;
+    let body = body_at(row, 2)?;
+    let durability = row.text(6)?.parse::<u8>().ok();
+    let path = path_at(alloc, row, 1)?;
+    let content_type = text_at(alloc, row, 5)?;
+    let metadata = metadata_of(alloc, row)?;
+    let entry = Entry::Object(Object {
+        number,
+        body,
+        content_type,
+        durability,
+        metadata,
+        mtime,
+    });
+    Ok(mt_types::Row { path, entry })
+}
+
+fn metadata_of(alloc: Global, row: &Row) -> Result<Sequence<Field>, Stop> {
+    let name = text_at(alloc, row, 7)?;
+    let value = bytes_at(alloc, row, 8)?;
+    one(alloc, Field { name, value })
 }
 
 // `directory PATH MTIME`
@@ -106,97 +111,145 @@ fn directory_of(alloc: Global, row: &Row) -> Result<mt_types::Row<Body>, Stop> {
 // `job PATH FIRST LENGTH NUMBER NAME EXEC INIT LINE CREATED DONE`: the path is that of its one asset, of its input and
 // of its output; it has one reduce phase of two reducers, and its input has ended.
 fn job_of(alloc: Global, row: &Row) -> Result<Job<Body>, Stop> {
+    let number = row.number(4)?;
+    let created = row.number(9)?;
+    let done = Some(row.number(10)?);
+    let document = document_of(alloc, row)?;
+    let assets = assets_of(alloc, row)?;
+    let inputs = items_of(alloc, row)?;
+    let missing = missing_of(alloc, row)?;
+    let trace = trace_of(alloc, row)?;
+    Ok(Job {
+        number,
+        document,
+        assets,
+        inputs,
+        missing,
+        ended: true,
+        cancelled: false,
+        created,
+        done,
+        trace,
+    })
+}
+
+fn assets_of(alloc: Global, row: &Row) -> Result<Sequence<Sequence<Body>>, Stop> {
+    let bodies = one(alloc, body_at(row, 2)?)?;
+    one(alloc, bodies)
+}
+
+fn items_of(alloc: Global, row: &Row) -> Result<Sequence<Item<Body>>, Stop> {
+    let body = body_at(row, 2)?;
+    let name = path_at(alloc, row, 1)?;
+    let root = text_at(alloc, row, 5)?;
+    let item = Item {
+        name,
+        root,
+        body,
+        reducer: Some(1),
+    };
+    one(alloc, item)
+}
+
+fn missing_of(alloc: Global, row: &Row) -> Result<Sequence<InputLine>, Stop> {
+    let line = text_at(alloc, row, 8)?;
+    one(alloc, InputLine::Other(line))
+}
+
+fn trace_of(alloc: Global, row: &Row) -> Result<Sequence<TraceEntry<Body>>, Stop> {
+    let items = items_of(alloc, row)?;
     let entry = TraceEntry {
         phase: 0,
         place: 1,
         position: 3,
-        outcome: Outcome::Good(one(alloc, item_of(alloc, row)?)?),
+        outcome: Outcome::Good(items),
     };
-    Ok(Job {
-        number: row.number(4)?,
-        document: document_of(alloc, row)?,
-        assets: one(alloc, one(alloc, body_at(row, 2)?)?)?,
-        inputs: one(alloc, item_of(alloc, row)?)?,
-        missing: one(alloc, InputLine::Other(text_at(alloc, row, 8)?))?,
-        ended: true,
-        cancelled: false,
-        created: row.number(9)?,
-        done: Some(row.number(10)?),
-        trace: one(alloc, entry)?,
-    })
-}
-
-fn item_of(alloc: Global, row: &Row) -> Result<Item<Body>, Stop> {
-    Ok(Item {
-        name: path_at(alloc, row, 1)?,
-        root: text_at(alloc, row, 5)?,
-        body: body_at(row, 2)?,
-        reducer: Some(1),
-    })
+    one(alloc, entry)
 }
 
 fn document_of(alloc: Global, row: &Row) -> Result<JobDocument, Stop> {
+    let name = text_at(alloc, row, 5)?;
+    let phases = phases_of(alloc, row)?;
+    Ok(JobDocument { name, phases })
+}
+
+fn phases_of(alloc: Global, row: &Row) -> Result<Sequence<Phase>, Stop> {
+    let exec = text_at(alloc, row, 6)?;
+    let init = text_at(alloc, row, 7)?;
+    let assets = paths_of(alloc, row)?;
     let phase = Phase {
         kind: PhaseKind::Reduce { count: 2 },
-        exec: text_at(alloc, row, 6)?,
-        init: Some(text_at(alloc, row, 7)?),
-        assets: one(alloc, path_at(alloc, row, 1)?)?,
+        exec,
+        init: Some(init),
+        assets,
     };
-    Ok(JobDocument {
-        name: text_at(alloc, row, 5)?,
-        phases: one(alloc, phase)?,
-    })
+    one(alloc, phase)
+}
+
+fn paths_of(alloc: Global, row: &Row) -> Result<Sequence<Path>, Stop> {
+    let path = path_at(alloc, row, 1)?;
+    one(alloc, path)
 }
 
 // `upload PATH FIRST LENGTH NUMBER TYPE MOMENT INDEX`, open, with one part of the same number.
 fn upload_of(alloc: Global, row: &Row) -> Result<Upload<Body>, Stop> {
-    let part = match row.text(7)?.parse::<u16>() {
-        Ok(index) => PartRow {
-            index,
-            number: row.number(4)?,
-            body: body_at(row, 2)?,
-        },
-        Err(_) => return Err(Stop::NoSuchRow),
-    };
+    let number = row.number(4)?;
+    let moment = row.number(6)?;
+    let path = path_at(alloc, row, 1)?;
+    let content_type = text_at(alloc, row, 5)?;
+    let parts = parts_of(alloc, row)?;
     Ok(Upload {
-        number: row.number(4)?,
-        path: path_at(alloc, row, 1)?,
-        content_type: text_at(alloc, row, 5)?,
-        moment: row.number(6)?,
-        parts: one(alloc, part)?,
+        number,
+        path,
+        content_type,
+        moment,
+        parts,
         stage: Stage::Open,
     })
 }
 
+fn parts_of(alloc: Global, row: &Row) -> Result<Sequence<PartRow<Body>>, Stop> {
+    let number = row.number(4)?;
+    let body = body_at(row, 2)?;
+    let Ok(index) = row.text(7)?.parse::<u16>() else {
+        return Err(Stop::NoSuchRow);
+    };
+    let part = PartRow {
+        index,
+        number,
+        body,
+    };
+    one(alloc, part)
+}
+
 // `raw STATUS STDERR TOTAL`
 fn raw_of(alloc: Global, row: &Row) -> Result<Raw, Stop> {
-    match row.text(1)?.parse::<u32>() {
-        Ok(status) => Ok(Raw {
-            status,
-            stderr: bytes_at(alloc, row, 2)?,
-            made: Made::TooLarge {
-                total: row.number(3)?,
-            },
-        }),
-        Err(_) => Err(Stop::NoSuchRow),
-    }
+    let total = row.number(3)?;
+    let Ok(status) = row.text(1)?.parse::<u32>() else {
+        return Err(Stop::NoSuchRow);
+    };
+    let stderr = bytes_at(alloc, row, 2)?;
+    Ok(Raw {
+        status,
+        stderr,
+        made: Made::TooLarge { total },
+    })
 }
 
 // `reply FROM FIRST LENGTH TO STATUS`, with no fields; the connection ends behind it.
 fn reply_of(alloc: Global, row: &Row) -> Result<Reply<Body>, Stop> {
-    match row.text(5)?.parse::<u16>() {
-        Ok(status) => Ok(Reply {
-            status,
-            fields: Sequence::new(alloc),
-            body: ReplyBody::Part {
-                body: body_at(row, 2)?,
-                from: row.number(1)?,
-                to: row.number(4)?,
-            },
-            closes: true,
-        }),
-        Err(_) => Err(Stop::NoSuchRow),
-    }
+    let from = row.number(1)?;
+    let body = body_at(row, 2)?;
+    let to = row.number(4)?;
+    let Ok(status) = row.text(5)?.parse::<u16>() else {
+        return Err(Stop::NoSuchRow);
+    };
+    Ok(Reply {
+        status,
+        fields: Sequence::new(alloc),
+        body: ReplyBody::Part { body, from, to },
+        closes: true,
+    })
 }
 
 impl Show for mt_types::Row<Body> {

@@ -1,6 +1,8 @@
 //! The calls of `mt_disk`.
+use crate::logs;
 use crate::untold::Untold;
-use mt_disk::{Disk, FileNo, Pick};
+use mt_disk::{Disk, FileNo};
+use mt_log::Log;
 use mt_rows::{Row, Stop, put_escaped};
 use std::alloc::{AllocError, Global};
 
@@ -9,30 +11,10 @@ const MOST_READ: u64 = 4096;
 
 /// The file that a row names at a place.
 pub fn file_at(row: &Row, place: usize) -> Result<FileNo, Stop> {
-    match row.bytes(place)? {
-        b"head" => Ok(FileNo::Head),
-        b"one" => Ok(FileNo::One),
-        b"two" => Ok(FileNo::Two),
-        _ => Err(Stop::NoSuchRow),
-    }
-}
-
-/// The picks that a row names from a place on, that of the newest call of the disk first.
-pub fn picks_of(alloc: Global, row: &Row, from: usize) -> Result<Vec<Pick>, Stop> {
-    let mut picks = Vec::new(alloc);
-    for place in from..row.len() {
-        picks.push(pick_of(row.bytes(place)?)?)?;
-    }
-    Ok(picks)
-}
-
-fn pick_of(name: &[u8]) -> Result<Pick, Stop> {
-    match name {
-        b"nothing" => Ok(Pick::Nothing),
-        b"zeros" => Ok(Pick::Zeros),
-        b"ones" => Ok(Pick::Ones),
-        b"half" => Ok(Pick::Half),
-        b"whole" => Ok(Pick::Whole),
+    match row.text(place)? {
+        "head" => Ok(FileNo::Head),
+        "one" => Ok(FileNo::One),
+        "two" => Ok(FileNo::Two),
         _ => Err(Stop::NoSuchRow),
     }
 }
@@ -55,22 +37,31 @@ pub fn zeros(alloc: Global, len: u64) -> Result<Vec<u8>, Stop> {
     Ok(bytes)
 }
 
-/// Answers a row of this module; `false` for another row.
-pub fn answer(alloc: Global, disk: &mut Untold, row: &Row, out: &mut String) -> Result<bool, Stop> {
-    match row.call() {
-        b"len" => write!(out, "{:?}", disk.len(file_at(row, 1)?))?,
-        b"read" => put_read(alloc, disk, row, out)?,
-        b"write" => {
-            let done = disk.write_at(file_at(row, 1)?, row.number(2)?, row.bytes(3)?);
-            write!(out, "{done:?}")?;
-        }
-        b"cut" => write!(out, "{:?}", disk.cut(file_at(row, 1)?, row.number(2)?))?,
-        b"sync" => write!(out, "{:?}", disk.sync(file_at(row, 1)?))?,
-        b"file" => put_bytes(out, disk.file(file_at(row, 1)?))?,
-        b"calls" => write!(out, "{}", disk.calls())?,
-        _ => return Ok(false),
+/// Answers a row of a disk, or else of the log over it.
+pub fn answer(
+    alloc: Global,
+    disk: &mut Untold,
+    log: &mut Option<Log>,
+    row: &Row,
+    out: &mut String,
+) -> Result<(), Stop> {
+    match row.text(0)? {
+        "len" => put_len(disk, row, out),
+        "read" => put_read(alloc, disk, row, out),
+        "write" => put_write(disk, row, out),
+        "cut" => put_cut(disk, row, out),
+        "sync" => put_sync(disk, row, out),
+        "file" => Ok(put_bytes(out, disk.file(file_at(row, 1)?))?),
+        "calls" => Ok(write!(out, "{}", disk.calls())?),
+        _ => match log {
+            Some(log) => logs::answer(alloc, disk, log, row, out),
+            None => Err(Stop::NoSuchRow),
+        },
     }
-    Ok(true)
+}
+
+fn put_len(disk: &mut Untold, row: &Row, out: &mut String) -> Result<(), Stop> {
+    Ok(write!(out, "{:?}", disk.len(file_at(row, 1)?))?)
 }
 
 // The bytes that a read gives.
@@ -78,6 +69,18 @@ fn put_read(alloc: Global, disk: &mut Untold, row: &Row, out: &mut String) -> Re
     let mut into = zeros(alloc, row.number(3)?)?;
     let done = disk.read(file_at(row, 1)?, row.number(2)?, &mut into);
     write!(out, "{done:?} ")?;
-    put_bytes(out, &into)?;
-    Ok(())
+    Ok(put_bytes(out, &into)?)
+}
+
+fn put_write(disk: &mut Untold, row: &Row, out: &mut String) -> Result<(), Stop> {
+    let done = disk.write_at(file_at(row, 1)?, row.number(2)?, row.bytes(3)?);
+    Ok(write!(out, "{done:?}")?)
+}
+
+fn put_cut(disk: &mut Untold, row: &Row, out: &mut String) -> Result<(), Stop> {
+    Ok(write!(out, "{:?}", disk.cut(file_at(row, 1)?, row.number(2)?))?)
+}
+
+fn put_sync(disk: &mut Untold, row: &Row, out: &mut String) -> Result<(), Stop> {
+    Ok(write!(out, "{:?}", disk.sync(file_at(row, 1)?))?)
 }

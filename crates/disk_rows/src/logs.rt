@@ -20,39 +20,39 @@ pub struct Ran {
     pub end: Result<(), AppendError>,
 }
 
-/// Answers a row of this module; `false` for another row.
+/// Answers a row of a log.
 pub fn answer(
     alloc: Global,
     disk: &mut Untold,
     log: &mut Log,
     row: &Row,
     out: &mut String,
-) -> Result<bool, Stop> {
-    match row.call() {
-        b"append" => write!(out, "{:?}", append(disk, log, row.bytes(1)?)?)?,
-        b"run" => {
-            let ran = run(alloc, disk, log, row)?;
-            for add in ran.adds {
-                write!(out, "{add:?}, ")?;
-            }
-            write!(out, "end {:?}", ran.end)?;
+) -> Result<(), Stop> {
+    match row.text(0)? {
+        "append" => put_append(disk, log, row, out),
+        "run" => put_run(alloc, disk, log, row, out),
+        "drop-run" => put_dropped(alloc, disk, log, row, out),
+        "payloads" => put_all(alloc, disk, log, out),
+        "payload-len" => put_len(disk, log, row, out),
+        "read-at" => put_read(alloc, disk, log, row, out),
+        "read-part" => put_part(alloc, disk, log, row, out),
+        "close" => {
+            log.close();
+            Ok(())
         }
-        b"payloads" => {
-            write!(out, "{} bytes:", log.len())?;
-            put_payloads(alloc, disk, log, out)?;
-        }
-        b"read-at" => put_read(alloc, disk, log, row, out)?,
-        b"read-part" => put_part(alloc, disk, log, row, out)?,
-        b"has-room" => write!(out, "{}", log.has_room(row.number(1)?))?,
-        b"log" => put_log(log, out)?,
-        b"close" => log.close(),
-        b"payload-len" => put_len(disk, log, row, out)?,
-        b"drop-run" => put_dropped(alloc, disk, log, row, out)?,
-        b"first" => write!(out, "{}", log.first())?,
-        b"next" => write!(out, "{:?}", log.next(row.number(1)?, row.number(2)?))?,
-        _ => return Ok(false),
+        _ => answer_of_state(log, row, out),
     }
-    Ok(true)
+}
+
+// Answers a row that asks a log for its state.
+fn answer_of_state(log: &Log, row: &Row, out: &mut String) -> Result<(), Stop> {
+    match row.text(0)? {
+        "log" => Ok(put_log(log, out)?),
+        "has-room" => Ok(write!(out, "{}", log.has_room(row.number(1)?))?),
+        "first" => Ok(write!(out, "{}", log.first())?),
+        "next" => Ok(write!(out, "{:?}", log.next(row.number(1)?, row.number(2)?))?),
+        _ => Err(Stop::NoSuchRow),
+    }
 }
 
 /// Appends a payload.
@@ -99,6 +99,30 @@ pub fn run(alloc: Global, disk: &mut Untold, log: &mut Log, row: &Row) -> Result
     let adds = add_all(alloc, disk, log, &mut run, row, 1)?;
     let end = log.end_run(disk, run);
     Ok(Ran { adds, end })
+}
+
+fn put_append(disk: &mut Untold, log: &mut Log, row: &Row, out: &mut String) -> Result<(), Stop> {
+    Ok(write!(out, "{:?}", append(disk, log, row.bytes(1)?)?)?)
+}
+
+// What each record of a run was told, and the end.
+fn put_run(
+    alloc: Global,
+    disk: &mut Untold,
+    log: &mut Log,
+    row: &Row,
+    out: &mut String,
+) -> Result<(), Stop> {
+    let ran = run(alloc, disk, log, row)?;
+    put_adds(ran.adds.as_slice(), out)?;
+    Ok(write!(out, "end {:?}", ran.end)?)
+}
+
+fn put_adds(adds: &[Result<u64, AppendError>], out: &mut String) -> Result<(), AllocError> {
+    for add in adds {
+        write!(out, "{add:?}, ")?;
+    }
+    Ok(())
 }
 
 /// Why a log isn't opened.
@@ -159,17 +183,28 @@ pub fn put_payloads(
     Ok(())
 }
 
+// How long a log is, and its payloads.
+fn put_all(alloc: Global, disk: &mut Untold, log: &Log, out: &mut String) -> Result<(), Stop> {
+    write!(out, "{} bytes:", log.len())?;
+    put_payloads(alloc, disk, log, out)
+}
+
 fn put_log(log: &Log, out: &mut String) -> Result<(), AllocError> {
-    write!(out, "{} bytes, limit {}", log.len(), log.limit())?;
-    write!(out, ", closed {}, old {}", log.is_closed(), log.is_old())
+    write!(
+        out,
+        "{} bytes, limit {}, closed {}, old {}",
+        log.len(),
+        log.limit(),
+        log.is_closed(),
+        log.is_old()
+    )
 }
 
 fn put_len(disk: &mut Untold, log: &Log, row: &Row, out: &mut String) -> Result<(), Stop> {
     if log.is_closed() {
         return Err(Stop::NoSuchRow);
     }
-    write!(out, "{:?}", log.payload_len(disk, row.number(1)?))?;
-    Ok(())
+    Ok(write!(out, "{:?}", log.payload_len(disk, row.number(1)?))?)
 }
 
 // A run that is given up: what each record was told, whether there was room for one more of so many bytes, and the end.
@@ -184,9 +219,8 @@ fn put_dropped(
         return Err(Stop::NoSuchRow);
     }
     let mut run = log.begin_run(disk);
-    for add in add_all(alloc, disk, log, &mut run, row, 2)? {
-        write!(out, "{add:?}, ")?;
-    }
+    let adds = add_all(alloc, disk, log, &mut run, row, 2)?;
+    put_adds(adds.as_slice(), out)?;
     let has_room = log.has_room_in_run(&run, row.number(1)?);
     let end = log.drop_run(disk, run);
     write!(out, "room {has_room}, dropped {end:?}")?;

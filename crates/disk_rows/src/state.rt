@@ -1,11 +1,12 @@
 //! The disk and the log that rows speak of.
-use crate::disks::{self, picks_of, put_bytes};
-use crate::logs::{self, put_refusal};
-use crate::stops::put_stop;
+use crate::disks::{self, put_bytes};
+use crate::logs::put_refusal;
+use crate::stops::{crashed, put_stop};
 use crate::untold::Untold;
-use mt_disk::{CrashError, FileNo, Room};
+use mt_disk::{FileNo, Room};
 use mt_log::Log;
 use mt_rows::{Row, Rows, Stop};
+use mt_untold::picks_of;
 use std::alloc::{AllocError, Global};
 
 /// The room of a disk where no row names one.
@@ -50,9 +51,9 @@ impl Disks {
     // A new disk of three files, and no log yet. The numbers behind them are of calls that fail.
     fn make(&mut self, alloc: Global, row: &Row) -> Result<(), Stop> {
         self.files = [
-            Vec::from_slice(alloc, row.bytes(1)?)?,
-            Vec::from_slice(alloc, row.bytes(2)?)?,
-            Vec::from_slice(alloc, row.bytes(3)?)?,
+            bytes_at(alloc, row, 1)?,
+            bytes_at(alloc, row, 2)?,
+            bytes_at(alloc, row, 3)?,
         ];
         let failing = row.numbers(alloc, 4)?;
         self.disk = Some(Untold::new(alloc, &self.files, self.room, &failing)?);
@@ -67,23 +68,19 @@ impl Disks {
         let Some(disk) = self.disk.take() else {
             return Err(Stop::NoSuchRow);
         };
-        match disk.crash(&picks) {
-            Ok(left) => {
-                put_files(out, &left)?;
-                self.disk = Some(left);
-            }
-            Err(CrashError::NotAnImage) => out.push_str("NotAnImage")?,
-            Err(CrashError::Memory) => return Err(Stop::Memory),
+        self.disk = crashed(disk, &picks)?;
+        match &self.disk {
+            Some(left) => Ok(put_files(out, left)?),
+            None => Ok(out.push_str("NotAnImage")?),
         }
-        Ok(())
     }
 
     fn open(&mut self, alloc: Global, row: &Row, out: &mut String) -> Result<(), Stop> {
         let Some(disk) = &mut self.disk else {
             return Err(Stop::NoSuchRow);
         };
-        let opened = match row.call() {
-            b"open" => Log::open(alloc, disk, row.number(1)?),
+        let opened = match row.text(0)? {
+            "open" => Log::open(alloc, disk, row.number(1)?),
             _ => Log::open_any(alloc, disk, row.number(1)?),
         };
         match opened {
@@ -115,20 +112,15 @@ impl Disks {
 
     // A row of a call of the disk, or else of the log.
     fn call(&mut self, alloc: Global, row: &Row, out: &mut String) -> Result<(), Stop> {
-        let Some(disk) = &mut self.disk else {
-            return Err(Stop::NoSuchRow);
-        };
-        if disks::answer(alloc, disk, row, out)? {
-            return Ok(());
+        match &mut self.disk {
+            Some(disk) => disks::answer(alloc, disk, &mut self.log, row, out),
+            None => Err(Stop::NoSuchRow),
         }
-        let Some(log) = &mut self.log else {
-            return Err(Stop::NoSuchRow);
-        };
-        if logs::answer(alloc, disk, log, row, out)? {
-            return Ok(());
-        }
-        Err(Stop::NoSuchRow)
     }
+}
+
+fn bytes_at(alloc: Global, row: &Row, place: usize) -> Result<Vec<u8>, Stop> {
+    Ok(Vec::from_slice(alloc, row.bytes(place)?)?)
 }
 
 fn put_files(out: &mut String, disk: &Untold) -> Result<(), AllocError> {
@@ -148,17 +140,17 @@ impl Rows for Disks {
         row: &Row,
         out: &mut String,
     ) -> Result<(), Stop> {
-        match row.call() {
-            b"room" => self.set_room(row),
-            b"disk" => self.make(alloc, row),
-            b"crash" => self.crash(alloc, row, out),
-            b"open" | b"open-any" => self.open(alloc, row, out),
-            b"steps" => {
+        match row.text(0)? {
+            "room" => self.set_room(row),
+            "disk" => self.make(alloc, row),
+            "crash" => self.crash(alloc, row, out),
+            "open" | "open-any" => self.open(alloc, row, out),
+            "steps" => {
                 self.steps.clear();
                 Ok(())
             }
-            b"step" => self.add_step(alloc, line),
-            b"stop" => self.stop(alloc, row, out),
+            "step" => self.add_step(alloc, line),
+            "stop" => self.stop(alloc, row, out),
             _ => self.call(alloc, row, out),
         }
     }

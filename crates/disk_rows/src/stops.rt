@@ -32,19 +32,13 @@ fn put_told(
     step: &Row,
     out: &mut String,
 ) -> Result<(), Stop> {
-    match step.call() {
-        b"append" => {
-            if append(disk, log, step.bytes(1)?)?.is_ok() {
-                put_words(out, step)?;
-            }
-        }
-        b"run" => {
-            let ran = run(alloc, disk, log, step)?;
-            if ran.end.is_ok() {
-                put_words(out, step)?;
-            }
-        }
+    let is_told = match step.text(0)? {
+        "append" => append(disk, log, step.bytes(1)?)?.is_ok(),
+        "run" => run(alloc, disk, log, step)?.end.is_ok(),
         _ => return Err(Stop::NoSuchRow),
+    };
+    if is_told {
+        put_words(out, step)?;
     }
     Ok(())
 }
@@ -61,32 +55,62 @@ fn put_words(out: &mut String, row: &Row) -> Result<(), Stop> {
 /// opened again. Prints both openings, the payloads that were told and those that were left, and Head.
 pub fn put_stop(
     alloc: Global,
-    mut disk: Untold,
+    disk: Untold,
     steps: &[Row],
     picks: &[Pick],
     out: &mut String,
 ) -> Result<(), Stop> {
-    if let Some(mut log) = opened(alloc, &mut disk, out)? {
-        for step in steps {
-            put_told(alloc, &mut disk, &mut log, step, out)?;
-        }
+    let disk = put_session(alloc, disk, steps, out)?;
+    match crashed(disk, picks)? {
+        Some(left) => put_left(alloc, left, out),
+        None => Ok(out.push_str("; no image")?),
     }
+}
+
+/// What a crash leaves, where it is an image.
+pub fn crashed(disk: Untold, picks: &[Pick]) -> Result<Option<Untold>, Stop> {
     match disk.crash(picks) {
-        Ok(mut left) => put_left(alloc, &mut left, out),
-        Err(CrashError::NotAnImage) => {
-            out.push_str("; no image")?;
-            Ok(())
-        }
+        Ok(left) => Ok(Some(left)),
+        Err(CrashError::NotAnImage) => Ok(None),
         Err(CrashError::Memory) => Err(Stop::Memory),
     }
 }
 
-fn put_left(alloc: Global, left: &mut Untold, out: &mut String) -> Result<(), Stop> {
+// A session over a disk, which is handed back.
+fn put_session(
+    alloc: Global,
+    mut disk: Untold,
+    steps: &[Row],
+    out: &mut String,
+) -> Result<Untold, Stop> {
+    put_steps(alloc, &mut disk, steps, out)?;
+    Ok(disk)
+}
+
+fn put_steps(
+    alloc: Global,
+    disk: &mut Untold,
+    steps: &[Row],
+    out: &mut String,
+) -> Result<(), Stop> {
+    if let Some(mut log) = opened(alloc, disk, out)? {
+        for step in steps {
+            put_told(alloc, disk, &mut log, step, out)?;
+        }
+    }
+    Ok(())
+}
+
+fn put_left(alloc: Global, mut left: Untold, out: &mut String) -> Result<(), Stop> {
+    put_standing(alloc, &mut left, out)
+}
+
+// What a log over a disk has, and Head.
+fn put_standing(alloc: Global, left: &mut Untold, out: &mut String) -> Result<(), Stop> {
     out.push_str("; left ")?;
     if let Some(log) = opened(alloc, left, out)? {
         put_payloads(alloc, left, &log, out)?;
     }
     out.push_str(", head ")?;
-    put_bytes(out, left.file(FileNo::Head))?;
-    Ok(())
+    Ok(put_bytes(out, left.file(FileNo::Head))?)
 }

@@ -4,14 +4,13 @@ ghost use Rattle.mt_codec.specs.Spelling.{IsWithinLimits};
 ghost use Rattle.mt_types.specs.Kinds.{OnRows, kind_of};
 ghost use Rattle.mt_types.specs.Limits.{is_moment};
 
-use crate::untold::Untold;
 use md5::{Digest, Md5};
 use mt_body::Storing;
 use mt_edge::MemSource;
 use mt_engine::{Accepted, Engine};
-use mt_log::Run;
 use mt_rows::{Row, Stop};
 use mt_types::{Body, Command, Fields, LAST_MOMENT, Path, Text, is_content_type};
+use mt_untold::Untold;
 use std::alloc::{AllocError, Global};
 
 /// The most bytes of a body.
@@ -64,6 +63,17 @@ fn put_of(alloc: Global, path: Path, body: Body, moment: u64) -> Result<Command<
     })
 }
 
+// A source of so many bytes, whose reads of these numbers fail.
+fn source_at(alloc: Global, row: &Row) -> Result<MemSource, Stop> {
+    let len = row.number(2)?;
+    if len > MOST {
+        return Err(Stop::NoSuchRow);
+    }
+    let failing = row.numbers(alloc, 4)?;
+    let bytes = pattern(alloc, len as usize)?;
+    Ok(MemSource::new(alloc, bytes).failing(failing))
+}
+
 // `put PATH COUNT MOMENT READ..`: so many bytes, of a source whose reads of these numbers fail.
 fn put(
     alloc: Global,
@@ -72,21 +82,19 @@ fn put(
     row: &Row,
     out: &mut String,
 ) -> Result<(), Stop> {
-    let len = row.number(2)?;
-    if engine.is_closed() || engine.is_old() || len > MOST {
+    if engine.is_closed() || engine.is_old() {
         return Err(Stop::NoSuchRow);
     }
-    let path = path_at(alloc, row, 1)?;
     let moment = moment_at(row, 3)?;
-    let bytes = pattern(alloc, len as usize)?;
-    let mut source = MemSource::new(alloc, bytes).failing(row.numbers(alloc, 4)?);
+    let path = path_at(alloc, row, 1)?;
+    let mut source = source_at(alloc, row)?;
     let mut sum = Md5::new();
     let mut run = engine.begin_run(disk);
     match engine.store_body(alloc, disk, &mut run, &mut source, &mut sum) {
         Storing::Stored(body) => {
             let command = put_of(alloc, path, body, moment)?;
             let answer = engine.accept(alloc, disk, run, command);
-            write!(out, "{answer:?}")?;
+            Ok(write!(out, "{answer:?}")?)
         }
         other => {
             write!(out, "{other:?}")?;
@@ -94,9 +102,9 @@ fn put(
                 let end = engine.end_run(disk, run);
                 write!(out, ", {end:?}")?;
             }
+            Ok(())
         }
     }
-    Ok(())
 }
 
 // A command without a body.
@@ -115,8 +123,55 @@ fn accept(
     }
     let run = engine.begin_run(disk);
     let answer = engine.accept(alloc, disk, run, command);
-    write!(out, "{answer:?}")?;
-    Ok(())
+    Ok(write!(out, "{answer:?}")?)
+}
+
+fn make_directory(
+    alloc: Global,
+    disk: &mut Untold,
+    engine: &mut Engine,
+    row: &Row,
+    out: &mut String,
+) -> Result<(), Stop> {
+    let moment = moment_at(row, 2)?;
+    let path = path_at(alloc, row, 1)?;
+    accept(
+        alloc,
+        disk,
+        engine,
+        Command::MakeDirectory { path, moment },
+        out,
+    )
+}
+
+fn link(
+    alloc: Global,
+    disk: &mut Untold,
+    engine: &mut Engine,
+    row: &Row,
+    out: &mut String,
+) -> Result<(), Stop> {
+    let moment = moment_at(row, 3)?;
+    let path = path_at(alloc, row, 1)?;
+    let source = path_at(alloc, row, 2)?;
+    let command = Command::Link {
+        path,
+        source,
+        moment,
+    };
+    accept(alloc, disk, engine, command, out)
+}
+
+fn delete(
+    alloc: Global,
+    disk: &mut Untold,
+    engine: &mut Engine,
+    row: &Row,
+    out: &mut String,
+) -> Result<(), Stop> {
+    let moment = moment_at(row, 2)?;
+    let path = path_at(alloc, row, 1)?;
+    accept(alloc, disk, engine, Command::Delete { path, moment }, out)
 }
 
 /// Answers a row of this module; `false` for another row.
@@ -127,40 +182,11 @@ pub fn answer(
     row: &Row,
     out: &mut String,
 ) -> Result<bool, Stop> {
-    match row.call() {
-        b"put" => put(alloc, disk, engine, row, out)?,
-        b"directory" => {
-            let path = path_at(alloc, row, 1)?;
-            let moment = moment_at(row, 2)?;
-            accept(
-                alloc,
-                disk,
-                engine,
-                Command::MakeDirectory { path, moment },
-                out,
-            )?;
-        }
-        b"link" => {
-            let path = path_at(alloc, row, 1)?;
-            let source = path_at(alloc, row, 2)?;
-            let moment = moment_at(row, 3)?;
-            accept(
-                alloc,
-                disk,
-                engine,
-                Command::Link {
-                    path,
-                    source,
-                    moment,
-                },
-                out,
-            )?;
-        }
-        b"delete" => {
-            let path = path_at(alloc, row, 1)?;
-            let moment = moment_at(row, 2)?;
-            accept(alloc, disk, engine, Command::Delete { path, moment }, out)?;
-        }
+    match row.text(0)? {
+        "put" => put(alloc, disk, engine, row, out)?,
+        "directory" => make_directory(alloc, disk, engine, row, out)?,
+        "link" => link(alloc, disk, engine, row, out)?,
+        "delete" => delete(alloc, disk, engine, row, out)?,
         _ => return Ok(false),
     }
     Ok(true)

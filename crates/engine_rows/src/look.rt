@@ -1,12 +1,14 @@
 //! What stands at paths, and what is sent of it.
+ghost use Rattle.std.specs.Prelude.{◌≡◌, IfOk, length};
+
 use crate::commands::path_at;
-use crate::untold::Untold;
 use md5::{Digest, Md5};
 use mt_edge::MemSink;
 use mt_engine::Engine;
 use mt_rows::{Row, Stop, put_escaped};
 use mt_tree::{Entry, Tree};
-use mt_types::Body;
+use mt_types::{Body, Object};
+use mt_untold::Untold;
 use std::alloc::{AllocError, Global};
 
 /// The most bytes of a part and of a sink.
@@ -43,21 +45,39 @@ pub fn put_rows(alloc: Global, tree: &Tree<Body>, out: &mut String) -> Result<()
     Ok(())
 }
 
+// The object at the path that a row names.
+fn object_at<'a>(alloc: Global, engine: &'a Engine, row: &Row) -> Result<&'a Object<Body>, Stop> {
+    match engine.tree().get(&path_at(alloc, row, 1)?) {
+        Some(Entry::Object(object)) => Ok(object),
+        _ => Err(Stop::NoSuchRow),
+    }
+}
+
 // `at PATH`
 fn put_entry(alloc: Global, engine: &Engine, row: &Row, out: &mut String) -> Result<(), Stop> {
     match engine.tree().get(&path_at(alloc, row, 1)?) {
-        Some(Entry::Directory { mtime }) => write!(out, "directory, moment {mtime}")?,
-        Some(Entry::Object(object)) => {
-            let body = &object.body;
-            write!(
-                out,
-                "object {}, moment {}, {} bytes at {}",
-                object.number, object.mtime, body.len, body.first
-            )?;
-        }
-        None => out.push_str("nothing")?,
+        Some(Entry::Directory { mtime }) => Ok(write!(out, "directory, moment {mtime}")?),
+        Some(Entry::Object(object)) => Ok(put_object(object, out)?),
+        None => Ok(out.push_str("nothing")?),
     }
-    Ok(())
+}
+
+fn put_object(object: &Object<Body>, out: &mut String) -> Result<(), AllocError> {
+    let body = &object.body;
+    write!(
+        out,
+        "object {}, moment {}, {} bytes at {}",
+        object.number, object.mtime, body.len, body.first
+    )
+}
+
+// So many zeros.
+fn zeros(alloc: Global, len: usize) -> Result<Vec<u8>, AllocError>
+    ensures { IfOk result (λ bytes. length bytes.items ≡ len) }
+{
+    let mut bytes = Vec::with_capacity(alloc, len)?;
+    bytes.resize(len, 0)?;
+    Ok(bytes)
 }
 
 // `send PATH FROM TO`: that part of the object's body to a sink.
@@ -70,26 +90,15 @@ fn put_sent(
 ) -> Result<(), Stop> {
     let from = row.number(2)?;
     let to = row.number(3)?;
-    let Some(Entry::Object(object)) = engine.tree().get(&path_at(alloc, row, 1)?) else {
-        return Err(Stop::NoSuchRow);
-    };
-    if engine.is_closed() || from > to || to > object.body.len || to > MOST {
+    let body = &object_at(alloc, engine, row)?.body;
+    if engine.is_closed() || from > to || to > body.len || to > MOST {
         return Err(Stop::NoSuchRow);
     }
-    let mut buffer = Vec::with_capacity(alloc, 65_536)?;
-    buffer.resize(65_536, 0)?;
+    let mut buffer = zeros(alloc, 65_536)?;
     let mut sink = MemSink::new(alloc, MOST as usize)?;
-    let sent = engine.send_body(
-        disk,
-        &mut sink,
-        &object.body,
-        from,
-        to,
-        buffer.as_mut_slice(),
-    );
+    let sent = engine.send_body(disk, &mut sink, body, from, to, buffer.as_mut_slice());
     write!(out, "{sent:?} ")?;
-    put_bytes(out, sink.written())?;
-    Ok(())
+    Ok(put_bytes(out, sink.written())?)
 }
 
 // `part PATH AT COUNT`: that part of the object's body into a slice.
@@ -102,18 +111,14 @@ fn put_part(
 ) -> Result<(), Stop> {
     let at = row.number(2)?;
     let count = row.number(3)?;
-    let Some(Entry::Object(object)) = engine.tree().get(&path_at(alloc, row, 1)?) else {
-        return Err(Stop::NoSuchRow);
-    };
-    if engine.is_closed() || count > MOST || at > object.body.len || count > object.body.len - at {
+    let body = &object_at(alloc, engine, row)?.body;
+    if engine.is_closed() || count > MOST || at > body.len || count > body.len - at {
         return Err(Stop::NoSuchRow);
     }
-    let mut part = Vec::with_capacity(alloc, count as usize)?;
-    part.resize(count as usize, 0)?;
-    let done = engine.read_body(disk, &object.body, at, part.as_mut_slice());
+    let mut part = zeros(alloc, count as usize)?;
+    let done = engine.read_body(disk, body, at, part.as_mut_slice());
     write!(out, "{done:?} ")?;
-    put_bytes(out, &part)?;
-    Ok(())
+    Ok(put_bytes(out, &part)?)
 }
 
 /// Answers a row of this module.
@@ -124,11 +129,11 @@ pub fn answer(
     row: &Row,
     out: &mut String,
 ) -> Result<(), Stop> {
-    match row.call() {
-        b"at" => put_entry(alloc, engine, row, out),
-        b"rows" => put_rows(alloc, engine.tree(), out),
-        b"send" => put_sent(alloc, disk, engine, row, out),
-        b"part" => put_part(alloc, disk, engine, row, out),
+    match row.text(0)? {
+        "at" => put_entry(alloc, engine, row, out),
+        "rows" => put_rows(alloc, engine.tree(), out),
+        "send" => put_sent(alloc, disk, engine, row, out),
+        "part" => put_part(alloc, disk, engine, row, out),
         _ => Err(Stop::NoSuchRow),
     }
 }

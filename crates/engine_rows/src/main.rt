@@ -2,14 +2,13 @@
 //! table of cases.
 //!
 //! - `state`: the disk and the engine that rows speak of. `commands`: the rows that end a run. `look`: what stands and what is sent.
-//! - `stops`: sessions whose disk fails, and what a crash leaves of them. `untold`: a disk in memory whose calls fail by their numbers.
+//! - `stops`: sessions whose disk fails, and what a crash leaves of them.
 #![tactic(auto)]
 
 mod commands;
 mod look;
 mod state;
 mod stops;
-mod untold;
 
 use mt_rows::print_table;
 use state::Engines;

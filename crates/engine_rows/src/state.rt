@@ -1,11 +1,18 @@
 //! The disk and the engine that rows speak of.
 use crate::stops::put_stop;
-use crate::untold::{Untold, picks_of};
 use crate::{commands, look};
-use mt_disk::FileNo;
+use mt_disk::{FileNo, Room};
 use mt_engine::Engine;
 use mt_rows::{Row, Rows, Stop};
+use mt_untold::{Untold, picks_of};
 use std::alloc::Global;
+
+/// The room of a disk: some bodies of more than one piece.
+const ROOM: Room = Room {
+    file: 500_000,
+    calls: 1_024,
+    written: 1_000_000,
+};
 
 /// An engine over a disk, and the steps of a session that is stopped.
 #[derive(Drop)]
@@ -55,6 +62,36 @@ fn put_after(engine: &Engine, calls: u64, out: &mut String) -> Result<(), Stop> 
     Ok(())
 }
 
+// A session over a copy of a disk.
+fn stop(
+    alloc: Global,
+    disk: &Untold,
+    row: &Row,
+    steps: &[Row],
+    out: &mut String,
+) -> Result<(), Stop> {
+    let limit = row.number(1)?;
+    let failing = row.number(2)?;
+    let picks = picks_of(alloc, row, 3)?;
+    let copy = Untold::over(alloc, disk)?;
+    put_stop(alloc, copy, limit, failing, steps, &picks, out)
+}
+
+// A row of the engine that is there.
+fn call_engine(
+    alloc: Global,
+    disk: &mut Untold,
+    engine: &mut Engine,
+    row: &Row,
+    out: &mut String,
+) -> Result<(), Stop> {
+    let before = disk.made();
+    if commands::answer(alloc, disk, engine, row, out)? {
+        return put_after(engine, disk.made().saturating_sub(before), out);
+    }
+    look::answer(alloc, disk, engine, row, out)
+}
+
 impl Engines {
     /// No disk yet.
     pub fn new(alloc: Global) -> Engines {
@@ -70,42 +107,22 @@ impl Engines {
         let Some(disk) = &mut self.disk else {
             return Err(Stop::NoSuchRow);
         };
-        match row.call() {
-            b"open" => {
+        match row.text(0)? {
+            "open" => {
                 self.engine = opened(alloc, disk, row.number(1)?, out)?;
-                return Ok(());
+                Ok(())
             }
-            b"fail" => {
+            "fail" => {
                 disk.fail(row.numbers(alloc, 1)?);
-                return Ok(());
+                Ok(())
             }
-            b"one" => {
-                look::put_bytes(out, disk.file(FileNo::One))?;
-                return Ok(());
-            }
-            b"stop" => {
-                let picks = picks_of(alloc, row, 3)?;
-                let copy = Untold::over(alloc, disk)?;
-                return put_stop(
-                    alloc,
-                    copy,
-                    row.number(1)?,
-                    row.number(2)?,
-                    &self.steps,
-                    &picks,
-                    out,
-                );
-            }
-            _ => {}
+            "one" => Ok(look::put_bytes(out, disk.file(FileNo::One))?),
+            "stop" => stop(alloc, disk, row, &self.steps, out),
+            _ => match &mut self.engine {
+                Some(engine) => call_engine(alloc, disk, engine, row, out),
+                None => Err(Stop::NoSuchRow),
+            },
         }
-        let Some(engine) = &mut self.engine else {
-            return Err(Stop::NoSuchRow);
-        };
-        let before = disk.made();
-        if commands::answer(alloc, disk, engine, row, out)? {
-            return put_after(engine, disk.made().saturating_sub(before), out);
-        }
-        look::answer(alloc, disk, engine, row, out)
     }
 
     fn add_step(&mut self, alloc: Global, line: &str) -> Result<(), Stop> {
@@ -127,17 +144,17 @@ impl Rows for Engines {
         row: &Row,
         out: &mut String,
     ) -> Result<(), Stop> {
-        match row.call() {
-            b"disk" => {
-                self.disk = Some(Untold::new(alloc)?);
+        match row.text(0)? {
+            "disk" => {
+                self.disk = Some(Untold::new(alloc, ROOM)?);
                 self.engine = None;
                 Ok(())
             }
-            b"steps" => {
+            "steps" => {
                 self.steps = Vec::new(alloc);
                 Ok(())
             }
-            b"step" => self.add_step(alloc, line),
+            "step" => self.add_step(alloc, line),
             _ => self.call(alloc, row, out),
         }
     }

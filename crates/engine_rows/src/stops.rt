@@ -2,9 +2,10 @@
 use crate::commands;
 use crate::look::put_rows;
 use crate::state::opened;
-use crate::untold::Untold;
 use mt_disk::{CrashError, Pick};
+use mt_engine::Engine;
 use mt_rows::{Row, Stop};
+use mt_untold::Untold;
 use std::alloc::Global;
 
 /// A session over a disk: the engine is opened under a limit and does each step, of whose calls of the disk the one of this number
@@ -18,35 +19,74 @@ pub fn put_stop(
     picks: &[Pick],
     out: &mut String,
 ) -> Result<(), Stop> {
-    let Some(mut engine) = opened(alloc, &mut disk, limit, out)? else {
+    if !put_session(alloc, &mut disk, limit, failing, steps, out)? {
         return Ok(());
-    };
-    let mut numbers = Vec::new(alloc);
-    numbers.push(failing)?;
-    disk.fail(numbers);
-    for step in steps {
-        out.push_str("; ")?;
-        if engine.is_closed() {
-            out.push_str("closed")?;
-        } else if !commands::answer(alloc, &mut disk, &mut engine, step, out)? {
-            return Err(Stop::NoSuchRow);
-        }
     }
     match disk.crash(alloc, picks) {
-        Ok(mut left) => put_left(alloc, &mut left, limit, out),
-        Err(CrashError::NotAnImage) => {
-            out.push_str("; no image")?;
-            Ok(())
-        }
+        Ok(left) => put_left(alloc, left, limit, out),
+        Err(CrashError::NotAnImage) => Ok(out.push_str("; no image")?),
         Err(CrashError::Memory) => Err(Stop::Memory),
     }
 }
 
-fn put_left(alloc: Global, left: &mut Untold, limit: u64, out: &mut String) -> Result<(), Stop> {
-    out.push_str("; left ")?;
-    if let Some(engine) = opened(alloc, left, limit, out)? {
-        out.push_str(": ")?;
-        put_rows(alloc, engine.tree(), out)?;
+// The steps of a session; `false` where no engine is opened.
+fn put_session(
+    alloc: Global,
+    disk: &mut Untold,
+    limit: u64,
+    failing: u64,
+    steps: &[Row],
+    out: &mut String,
+) -> Result<bool, Stop> {
+    let mut numbers = Vec::new(alloc);
+    numbers.push(failing)?;
+    match opened(alloc, disk, limit, out)? {
+        Some(engine) => {
+            disk.fail(numbers);
+            put_steps(alloc, disk, engine, steps, out)?;
+            Ok(true)
+        }
+        None => Ok(false),
+    }
+}
+
+fn put_steps(
+    alloc: Global,
+    disk: &mut Untold,
+    mut engine: Engine,
+    steps: &[Row],
+    out: &mut String,
+) -> Result<(), Stop> {
+    for step in steps {
+        put_step(alloc, disk, &mut engine, step, out)?;
     }
     Ok(())
+}
+
+fn put_step(
+    alloc: Global,
+    disk: &mut Untold,
+    engine: &mut Engine,
+    step: &Row,
+    out: &mut String,
+) -> Result<(), Stop> {
+    out.push_str("; ")?;
+    if engine.is_closed() {
+        return Ok(out.push_str("closed")?);
+    }
+    if !commands::answer(alloc, disk, engine, step, out)? {
+        return Err(Stop::NoSuchRow);
+    }
+    Ok(())
+}
+
+fn put_left(alloc: Global, mut left: Untold, limit: u64, out: &mut String) -> Result<(), Stop> {
+    out.push_str("; left ")?;
+    match opened(alloc, &mut left, limit, out)? {
+        Some(engine) => {
+            out.push_str(": ")?;
+            put_rows(alloc, engine.tree(), out)
+        }
+        None => Ok(()),
+    }
 }

@@ -1,7 +1,7 @@
 //! The rows, and what they set.
 use crate::reading::{put_asked, put_message, put_stream, source_of};
-use crate::replying::{put_head, put_interim, put_reply};
-use mt_edge::MemSink;
+use crate::replying::{put_head, put_interim, put_reply, sink_of};
+use mt_edge::{MemSink, MemSource};
 use mt_rows::{Row, Rows, Stop, unescaped};
 use std::alloc::{AllocError, Global};
 
@@ -68,22 +68,24 @@ impl Messages {
         Ok(())
     }
 
-    // A row that sets what the next ones play on.
-    fn set(&mut self, alloc: Global, line: &str, row: &Row) -> Result<bool, Stop> {
-        match row.call() {
-            b"bytes" => self.set_bytes(alloc, line)?,
-            b"times" => {
-                let bytes = row.bytes(2)?;
-                for _ in 0..row.number(1)?.min(MOST_TIMES) {
-                    self.bytes.extend_from_slice(bytes)?;
-                }
-            }
-            b"cuts" => self.set_cuts(alloc, row)?,
-            b"fail" => self.fails = row.numbers(alloc, 1)?,
-            b"room" => self.room = size_at(row, 1)?,
-            _ => return Ok(false),
+    fn set_fails(&mut self, alloc: Global, row: &Row) -> Result<(), Stop> {
+        self.fails = row.numbers(alloc, 1)?;
+        Ok(())
+    }
+
+    fn set_room(&mut self, row: &Row) -> Result<(), Stop> {
+        self.room = size_at(row, 1)?;
+        Ok(())
+    }
+
+    // Adds the bytes of a word so many times.
+    fn add_times(&mut self, row: &Row) -> Result<(), Stop> {
+        let times = row.number(1)?.min(MOST_TIMES);
+        let bytes = row.bytes(2)?;
+        for _ in 0..times {
+            self.bytes.extend_from_slice(bytes)?;
         }
-        Ok(true)
+        Ok(())
     }
 
     // The numbers of bytes that a row is played for.
@@ -102,12 +104,7 @@ impl Messages {
     fn read(&mut self, alloc: Global, row: &Row, most: usize) -> Result<String, Stop> {
         let mut out = String::new(alloc);
         let mut source = source_of(alloc, &self.bytes, most, &self.fails)?;
-        match row.call() {
-            b"message" => put_message(alloc, &mut source, &mut out)?,
-            b"asks" => put_asked(alloc, &mut source, &mut out)?,
-            b"stream" => put_stream(alloc, &mut source, row.number(1).ok(), &mut out)?,
-            _ => return Err(Stop::NoSuchRow),
-        }
+        put_read(alloc, row, &mut source, &mut out)?;
         self.calls = source.calls();
         self.faults = source.faults();
         Ok(out)
@@ -116,23 +113,16 @@ impl Messages {
     // Plays a row over a sink.
     fn write(&mut self, alloc: Global, row: &Row, most: usize) -> Result<String, Stop> {
         let mut out = String::new(alloc);
-        let sink = MemSink::new(alloc, self.room)?.at_most(most.max(1));
-        let mut sink = sink.failing(Vec::from_slice(alloc, &self.fails)?);
-        match row.call() {
-            b"reply" => put_reply(alloc, row, false, &mut sink, &mut out)?,
-            b"reply-to-head" => put_reply(alloc, row, true, &mut sink, &mut out)?,
-            b"head" => put_head(alloc, row, &mut sink, &mut out)?,
-            b"interim" => put_interim(&mut sink, &mut out)?,
-            _ => return Err(Stop::NoSuchRow),
-        }
+        let mut sink = sink_of(alloc, self.room, most, &self.fails)?;
+        put_write(alloc, row, &mut sink, &mut out)?;
         self.calls = sink.calls();
         self.faults = sink.faults();
         Ok(out)
     }
 
     fn play(&mut self, alloc: Global, row: &Row, most: usize) -> Result<String, Stop> {
-        match row.call() {
-            b"message" | b"asks" | b"stream" => self.read(alloc, row, most),
+        match row.text(0)? {
+            "message" | "asks" | "stream" => self.read(alloc, row, most),
             _ => self.write(alloc, row, most),
         }
     }
@@ -153,6 +143,42 @@ impl Messages {
         }
         Ok(())
     }
+
+    // Plays a row over the bytes of its own line.
+    fn play_line(
+        &mut self,
+        alloc: Global,
+        line: &str,
+        row: &Row,
+        out: &mut String,
+    ) -> Result<(), Stop> {
+        self.set_bytes(alloc, line)?;
+        self.play_each(alloc, row, out)
+    }
+}
+
+fn put_read(
+    alloc: Global,
+    row: &Row,
+    source: &mut MemSource,
+    out: &mut String,
+) -> Result<(), Stop> {
+    match row.text(0)? {
+        "message" => put_message(alloc, source, out),
+        "asks" => put_asked(alloc, source, out),
+        "stream" => put_stream(alloc, source, row.number(1).ok(), out),
+        _ => Err(Stop::NoSuchRow),
+    }
+}
+
+fn put_write(alloc: Global, row: &Row, sink: &mut MemSink, out: &mut String) -> Result<(), Stop> {
+    match row.text(0)? {
+        "reply" => put_reply(alloc, row, false, sink, out),
+        "reply-to-head" => put_reply(alloc, row, true, sink, out),
+        "head" => put_head(alloc, row, sink, out),
+        "interim" => Ok(put_interim(sink, out)?),
+        _ => Err(Stop::NoSuchRow),
+    }
 }
 
 fn size_at(row: &Row, place: usize) -> Result<usize, Stop> {
@@ -170,18 +196,16 @@ impl Rows for Messages {
         row: &Row,
         out: &mut String,
     ) -> Result<(), Stop> {
-        if self.set(alloc, line, row)? {
-            return Ok(());
+        match row.text(0)? {
+            "bytes" => self.set_bytes(alloc, line),
+            "times" => self.add_times(row),
+            "cuts" => self.set_cuts(alloc, row),
+            "fail" => self.set_fails(alloc, row),
+            "room" => self.set_room(row),
+            "calls" => Ok(write!(out, "{}", self.calls)?),
+            "faults" => Ok(write!(out, "{}", self.faults)?),
+            "message" | "asks" if row.len() > 1 => self.play_line(alloc, line, row, out),
+            _ => self.play_each(alloc, row, out),
         }
-        match row.call() {
-            b"calls" => write!(out, "{}", self.calls)?,
-            b"faults" => write!(out, "{}", self.faults)?,
-            b"message" | b"asks" if row.len() > 1 => {
-                self.set_bytes(alloc, line)?;
-                self.play_each(alloc, row, out)?;
-            }
-            _ => self.play_each(alloc, row, out)?,
-        }
-        Ok(())
     }
 }

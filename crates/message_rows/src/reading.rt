@@ -24,25 +24,23 @@ pub fn source_of(
 /// Appends the message at the front of a source and what is left behind it, or why there is none.
 pub fn put_message(alloc: Global, source: &mut MemSource, out: &mut String) -> Result<(), Stop> {
     match read_message(alloc, source) {
-        Ok(message) => {
-            show(&message, out)?;
-            out.push_str("; left ")?;
-            put_quoted(out, source.left())?;
-        }
-        Err(MessageEnd::Memory) => return Err(Stop::Memory),
-        Err(end) => write!(out, "{end:?}")?,
+        Ok(message) => Ok(show(&message, source.left(), out)?),
+        Err(MessageEnd::Memory) => Err(Stop::Memory),
+        Err(end) => Ok(write!(out, "{end:?}")?),
     }
-    Ok(())
 }
 
-fn show(message: &Message, out: &mut String) -> Result<(), AllocError> {
+// A message, and what is left behind it.
+fn show(message: &Message, left: &[u8], out: &mut String) -> Result<(), AllocError> {
     out.push_str(message.method.as_str())?;
     out.push(' ')?;
     put_bytes(out, message.target.as_slice())?;
     write!(out, " 1.{}", message.minor)?;
     put_fields(out, message.fields.as_slice())?;
     out.push_str("; body ")?;
-    put_quoted(out, message.body.as_slice())
+    put_quoted(out, message.body.as_slice())?;
+    out.push_str("; left ")?;
+    put_quoted(out, left)
 }
 
 // The head at the front of a source.
@@ -57,12 +55,14 @@ fn head_of(alloc: Global, source: &mut MemSource) -> Result<Head, Stop> {
 /// Appends what the head at the front of a source asks for.
 pub fn put_asked(alloc: Global, source: &mut MemSource, out: &mut String) -> Result<(), Stop> {
     let head = head_of(alloc, source)?;
-    let framing = head.framing;
-    write!(out, "{framing:?}, limit {}", limit_of(&head))?;
-    write!(out, ", interim {}", wants_interim(&head))?;
-    let fields = head.fields.as_slice();
-    write!(out, ", closes {}", closes(head.minor, fields))?;
-    Ok(())
+    Ok(write!(
+        out,
+        "{:?}, limit {}, interim {}, closes {}",
+        head.framing,
+        limit_of(&head),
+        wants_interim(&head),
+        closes(head.minor, head.fields.as_slice())
+    )?)
 }
 
 /// Appends the reads of the body at the front of a source, each with its ending, and what is left behind it. With no
@@ -78,8 +78,7 @@ pub fn put_stream(
     let mut stream = BodyStream::new(source, &head, limit);
     put_reads(&mut stream, out)?;
     out.push_str("left ")?;
-    put_quoted(out, source.left())?;
-    Ok(())
+    Ok(put_quoted(out, source.left())?)
 }
 
 fn put_reads(stream: &mut BodyStream<'_, MemSource>, out: &mut String) -> Result<(), AllocError> {

@@ -1,4 +1,7 @@
 //! Replies.
+ghost use Rattle.std.specs.Prelude.{IfOk};
+ghost use Rattle.mt_http.specs.ReplyText.{IsHeld};
+
 use crate::show::put_text;
 use mt_base::{Bytes, Sequence, Text};
 use mt_edge::MemSink;
@@ -10,19 +13,22 @@ use std::alloc::{AllocError, Global};
 fn fields_from(alloc: Global, row: &Row, from: usize) -> Result<Fields, Stop> {
     let mut fields = Sequence::new(alloc);
     for place in (from..row.len()).step_by(2) {
-        fields.push(Field {
-            name: Text::from_str(alloc, row.text(place)?)?,
-            value: Bytes::from_slice(alloc, row.bytes(place.wrapping_add(1))?)?,
-        })?;
+        fields.push(field_of(alloc, row.text(place)?, row.bytes(place.wrapping_add(1))?)?)?;
     }
     Ok(fields)
 }
 
+fn field_of(alloc: Global, name: &str, value: &[u8]) -> Result<Field, AllocError> {
+    let name = Text::from_str(alloc, name)?;
+    let value = Bytes::from_slice(alloc, value)?;
+    Ok(Field { name, value })
+}
+
 // The word `closes` or `stays` at a place.
 fn closes_at(row: &Row, place: usize) -> Result<bool, Stop> {
-    match row.bytes(place)? {
-        b"closes" => Ok(true),
-        b"stays" => Ok(false),
+    match row.text(place)? {
+        "closes" => Ok(true),
+        "stays" => Ok(false),
         _ => Err(Stop::NoSuchRow),
     }
 }
@@ -34,6 +40,37 @@ fn status_at(row: &Row, place: usize) -> Result<u16, Stop> {
     }
 }
 
+/// A sink of so much room, of which no write takes more than so many bytes, and the writes of these numbers fail.
+pub fn sink_of(
+    alloc: Global,
+    room: usize,
+    most: usize,
+    fails: &[u64],
+) -> Result<MemSink, AllocError> {
+    let fails = Vec::from_slice(alloc, fails)?;
+    Ok(
+        MemSink::new(alloc, room)?
+            .at_most(most.max(1))
+            .failing(fails),
+    )
+}
+
+// The reply of a row `.. STATUS closes|stays .. NAME VALUE ..`, with this body.
+fn reply_of(alloc: Global, row: &Row, body: &[u8]) -> Result<Reply<Bytes>, Stop>
+    ensures { IfOk result (λ reply. IsHeld reply.body) }
+{
+    let status = status_at(row, 1)?;
+    let closes = closes_at(row, 2)?;
+    let body = Bytes::from_slice(alloc, body)?;
+    let fields = fields_from(alloc, row, 4)?;
+    Ok(Reply {
+        status,
+        fields,
+        body: ReplyBody::Held(body),
+        closes,
+    })
+}
+
 /// Writes the reply of a row `reply STATUS closes|stays BODY NAME VALUE ..` to a sink, or its head alone.
 pub fn put_reply(
     alloc: Global,
@@ -42,12 +79,7 @@ pub fn put_reply(
     sink: &mut MemSink,
     out: &mut String,
 ) -> Result<(), Stop> {
-    let reply: Reply<Bytes> = Reply {
-        status: status_at(row, 1)?,
-        fields: fields_from(alloc, row, 4)?,
-        body: ReplyBody::Held(Bytes::from_slice(alloc, row.bytes(3)?)?),
-        closes: closes_at(row, 2)?,
-    };
+    let reply = reply_of(alloc, row, row.bytes(3)?)?;
     let written = write_reply(alloc, sink, &reply, head_only);
     put_written(written, sink, out)
 }
@@ -59,13 +91,9 @@ pub fn put_head(
     sink: &mut MemSink,
     out: &mut String,
 ) -> Result<(), Stop> {
-    let reply: Reply<Bytes> = Reply {
-        status: status_at(row, 1)?,
-        fields: fields_from(alloc, row, 4)?,
-        body: ReplyBody::Held(Bytes::from_slice(alloc, b"")?),
-        closes: closes_at(row, 2)?,
-    };
-    let written = write_head(alloc, sink, &reply, row.number(3)?);
+    let size = row.number(3)?;
+    let reply = reply_of(alloc, row, b"")?;
+    let written = write_head(alloc, sink, &reply, size);
     put_written(written, sink, out)
 }
 
@@ -74,13 +102,13 @@ fn put_written(
     sink: &MemSink,
     out: &mut String,
 ) -> Result<(), Stop> {
-    match written {
-        Ok(()) => out.push_str("Ok")?,
-        Err(ReplyEnd::SinkFault) => out.push_str("SinkFault")?,
+    let word = match written {
+        Ok(()) => "Ok",
+        Err(ReplyEnd::SinkFault) => "SinkFault",
         Err(ReplyEnd::Memory) => return Err(Stop::Memory),
-    }
-    put_text(out, sink.written())?;
-    Ok(())
+    };
+    out.push_str(word)?;
+    Ok(put_text(out, sink.written())?)
 }
 
 /// Writes the interim reply to a sink.

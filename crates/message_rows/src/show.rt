@@ -43,21 +43,20 @@ pub fn put_fields(out: &mut String, fields: &[Field]) -> Result<(), AllocError> 
 pub fn put_text(out: &mut String, text: &[u8]) -> Result<(), AllocError> {
     for line in text.split_inclusive(|b| *b == b'\n') {
         match line.strip_suffix(b"\r\n") {
-            Some(line) if line.is_empty() => out.push_str("\n    <")?,
-            Some(line) => {
-                out.push_str("\n    < ")?;
-                put_line(out, line)?;
-            }
-            None => {
-                out.push_str("\n    <| ")?;
-                put_line(out, line)?;
-            }
+            Some(line) => put_line(out, "\n    <", line)?,
+            None => put_line(out, "\n    <|", line)?,
         }
     }
     Ok(())
 }
 
-fn put_line(out: &mut String, line: &[u8]) -> Result<(), AllocError> {
+// A mark, and a line behind a blank where it has bytes.
+fn put_line(out: &mut String, mark: &str, line: &[u8]) -> Result<(), AllocError> {
+    out.push_str(mark)?;
+    if line.is_empty() {
+        return Ok(());
+    }
+    out.push(' ')?;
     match line.strip_suffix(b" ") {
         Some(front) => {
             put_bytes(out, front)?;

@@ -1,4 +1,5 @@
 //! Heads read into what they ask for: `NAME .. LOGIN METHOD TARGET FIELD ..`, a field as it stands in a head.
+use crate::replying;
 use mt_edge::MemSource;
 use mt_error::{More, Refused};
 use mt_http::{Head, read_head};
@@ -7,27 +8,32 @@ use mt_path::Path;
 use mt_request::{Doing, Page, Request, Wish, request_of};
 use mt_rows::{Row, Stop, put_escaped};
 use mt_types::Field;
-use std::alloc::Global;
+use std::alloc::{AllocError, Global};
 
-/// Answers a row of this module; `false` for another row.
-pub fn answer(alloc: Global, row: &Row, out: &mut String) -> Result<bool, Stop> {
-    match row.call() {
-        b"ask" => {
-            let request = request_at(alloc, row, 1)?;
-            put_request(alloc, row.text(1)?, &request, out)?;
-        }
-        b"refusal" => {
-            let request = request_at(alloc, row, 2)?;
-            let digest = md5_of(row.bytes(1)?);
-            put_refusal(request.refusal(Some(&digest)), out)?;
-        }
-        b"refusal-before-its-body" => {
-            let request = request_at(alloc, row, 1)?;
-            put_refusal(request.refusal(None), out)?;
-        }
-        _ => return Ok(false),
+/// Answers a row of this module, or else of the next.
+pub fn answer(alloc: Global, row: &Row, out: &mut String) -> Result<(), Stop> {
+    match row.text(0)? {
+        "ask" => put_asked(alloc, row, out),
+        "refusal" => put_refused_body(alloc, row, out),
+        "refusal-before-its-body" => put_refused_head(alloc, row, out),
+        _ => replying::answer(alloc, row, out),
     }
-    Ok(true)
+}
+
+fn put_asked(alloc: Global, row: &Row, out: &mut String) -> Result<(), Stop> {
+    let request = request_at(alloc, row, 1)?;
+    put_request(alloc, row.text(1)?, &request, out)
+}
+
+fn put_refused_body(alloc: Global, row: &Row, out: &mut String) -> Result<(), Stop> {
+    let digest = md5_of(row.bytes(1)?);
+    let request = request_at(alloc, row, 2)?;
+    put_refusal(request.refusal(Some(&digest)), out)
+}
+
+fn put_refused_head(alloc: Global, row: &Row, out: &mut String) -> Result<(), Stop> {
+    let request = request_at(alloc, row, 1)?;
+    put_refusal(request.refusal(None), out)
 }
 
 // The request of the login, the method, the target and the fields that stand from a place on.
@@ -36,16 +42,20 @@ fn request_at(alloc: Global, row: &Row, place: usize) -> Result<Request, Stop> {
     Ok(request_of(alloc, row.text(place)?, &head)?)
 }
 
+fn put_pieces(bytes: &mut Vec<u8>, pieces: &[&[u8]]) -> Result<(), AllocError> {
+    for piece in pieces {
+        bytes.extend_from_slice(piece)?;
+    }
+    Ok(())
+}
+
 // The head of the method, the target and the fields that stand from a place on.
 fn head_at(alloc: Global, row: &Row, place: usize) -> Result<Head, Stop> {
+    let (method, target) = (row.bytes(place)?, row.bytes(place.saturating_add(1))?);
     let mut bytes = Vec::new(alloc);
-    bytes.extend_from_slice(row.bytes(place)?)?;
-    bytes.push(b' ')?;
-    bytes.extend_from_slice(row.bytes(place.saturating_add(1))?)?;
-    bytes.extend_from_slice(b" HTTP/1.1\r\n")?;
+    put_pieces(&mut bytes, &[method, b" ", target, b" HTTP/1.1\r\n"])?;
     for field in place.saturating_add(2)..row.len() {
-        bytes.extend_from_slice(row.bytes(field)?)?;
-        bytes.extend_from_slice(b"\r\n")?;
+        put_pieces(&mut bytes, &[row.bytes(field)?, b"\r\n"])?;
     }
     bytes.extend_from_slice(b"\r\n")?;
     match read_head(alloc, &mut MemSource::new(alloc, bytes)) {
@@ -56,13 +66,12 @@ fn head_at(alloc: Global, row: &Row, place: usize) -> Result<Head, Stop> {
 
 // A refusal with what its reply says besides.
 fn put_refused(refused: Refused, out: &mut String) -> Result<(), Stop> {
-    out.push_str(refused.code.name())?;
+    let name = refused.code.name();
     match refused.more {
-        More::Nothing => {}
-        More::Allow(methods) => write!(out, ", allow {}", methods.text())?,
-        More::Size(size) => write!(out, ", size {size}")?,
+        More::Nothing => Ok(out.push_str(name)?),
+        More::Allow(methods) => Ok(write!(out, "{name}, allow {}", methods.text())?),
+        More::Size(size) => Ok(write!(out, "{name}, size {size}")?),
     }
-    Ok(())
 }
 
 fn put_refusal(refusal: Option<Refused>, out: &mut String) -> Result<(), Stop> {

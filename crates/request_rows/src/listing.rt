@@ -1,4 +1,6 @@
 //! The lines of pages.
+ghost use Rattle.std.specs.Prelude.{◌≤◌, IfOk};
+
 use mt_live::page_text;
 use mt_rows::{Row, Stop, put_lines};
 use mt_types::{Area, Body, Entry, LAST_MOMENT, Object, Path, Sequence, Text};
@@ -7,14 +9,13 @@ use std::alloc::Global;
 /// The first number that no object has.
 const NUMBERS_END: u64 = 1 << 62;
 
-/// Answers a row of this module; `false` for another row.
-pub fn answer(alloc: Global, row: &Row, out: &mut String) -> Result<bool, Stop> {
-    match row.call() {
-        b"directory" => put_directory(alloc, row, out)?,
-        b"file" => put_object(alloc, row, out)?,
-        _ => return Ok(false),
+/// Answers a row of this module.
+pub fn answer(alloc: Global, row: &Row, out: &mut String) -> Result<(), Stop> {
+    match row.text(0)? {
+        "directory" => put_directory(alloc, row, out),
+        "file" => put_object(alloc, row, out),
+        _ => Err(Stop::NoSuchRow),
     }
-    Ok(true)
 }
 
 // The path of this name below a root, or the root.
@@ -29,43 +30,51 @@ fn path_of(alloc: Global, name: &[u8]) -> Result<Path, Stop> {
     }
 }
 
+fn mtime_at(row: &Row, place: usize) -> Result<u64, Stop>
+    ensures { IfOk result (λ mtime. mtime ≤ LAST_MOMENT) }
+{
+    match row.number(place)? {
+        mtime if mtime <= LAST_MOMENT => Ok(mtime),
+        _ => Err(Stop::NoSuchRow),
+    }
+}
+
 // `directory NAME MTIME`: its line.
 fn put_directory(alloc: Global, row: &Row, out: &mut String) -> Result<(), Stop> {
+    let mtime = mtime_at(row, 2)?;
     let path = path_of(alloc, row.bytes(1)?)?;
-    let mtime = row.number(2)?;
-    if mtime > LAST_MOMENT {
-        return Err(Stop::NoSuchRow);
-    }
     let entry = Entry::Directory { mtime };
     let text = page_text(alloc, &[mt_types::Row { path, entry }])?;
-    write!(out, "{} bytes", text.len())?;
-    put_lines(out, text.as_slice())?;
-    Ok(())
+    put_page(text.as_slice(), out)
 }
 
 // `file NAME NUMBER MTIME SIZE`: the line of an object.
 fn put_object(alloc: Global, row: &Row, out: &mut String) -> Result<(), Stop> {
-    let path = path_of(alloc, row.bytes(1)?)?;
     let number = row.number(2)?;
-    let mtime = row.number(3)?;
-    if number >= NUMBERS_END || mtime > LAST_MOMENT {
+    if number >= NUMBERS_END {
         return Err(Stop::NoSuchRow);
     }
-    let object = Object {
+    let mtime = mtime_at(row, 3)?;
+    let body = Body {
+        first: 9,
+        len: row.number(4)?,
+        md5: [0; 16],
+    };
+    let content_type = Text::from_str(alloc, "text/plain")?;
+    let path = path_of(alloc, row.bytes(1)?)?;
+    let entry = Entry::Object(Object {
         number,
-        body: Body {
-            first: 9,
-            len: row.number(4)?,
-            md5: [0; 16],
-        },
-        content_type: Text::from_str(alloc, "text/plain")?,
+        body,
+        content_type,
         durability: None,
         metadata: Sequence::new(alloc),
         mtime,
-    };
-    let entry = Entry::Object(object);
+    });
     let text = page_text(alloc, &[mt_types::Row { path, entry }])?;
+    put_page(text.as_slice(), out)
+}
+
+fn put_page(text: &[u8], out: &mut String) -> Result<(), Stop> {
     write!(out, "{} bytes", text.len())?;
-    put_lines(out, text.as_slice())?;
-    Ok(())
+    Ok(put_lines(out, text)?)
 }

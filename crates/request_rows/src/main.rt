@@ -2,6 +2,7 @@
 //! `mt_request`, `mt_reply` and `mt_live`.
 //!
 //! - `asking`: heads read into what they ask for. `replying`: replies, as they are written. `listing`: the lines of pages.
+//!   Each leaves the rows that it doesn't know to the next.
 //! - `codes`: errors by their names.
 #![tactic(auto)]
 
@@ -25,13 +26,7 @@ impl Rows for Requests {
         row: &Row,
         out: &mut String,
     ) -> Result<(), Stop> {
-        if asking::answer(alloc, row, out)?
-            || replying::answer(alloc, row, out)?
-            || listing::answer(alloc, row, out)?
-        {
-            return Ok(());
-        }
-        Err(Stop::NoSuchRow)
+        asking::answer(alloc, row, out)
     }
 }
 

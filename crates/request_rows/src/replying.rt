@@ -2,6 +2,7 @@
 ghost use Rattle.std.specs.Prelude.{◌≤◌, ◌<◌, ◌^◌, IfOk};
 
 use crate::codes::code_named;
+use crate::listing;
 use mt_edge::MemSink;
 use mt_error::{ErrorCode, Methods, Refused};
 use mt_http::{write_head, write_reply};
@@ -12,7 +13,7 @@ use mt_reply::{
 };
 use mt_rows::{Row, Stop, put_lines};
 use mt_types::{Bytes, Field, Object, Reply, ReplyBody, Sequence, Text};
-use std::alloc::Global;
+use std::alloc::{AllocError, Global};
 
 /// The room of a sink, in bytes.
 const ROOM: usize = 10_000;
@@ -20,25 +21,26 @@ const ROOM: usize = 10_000;
 /// The first number that no object has.
 const NUMBERS_END: u64 = 1 << 62;
 
-/// Answers a row of this module; `false` for another row.
-pub fn answer(alloc: Global, row: &Row, out: &mut String) -> Result<bool, Stop> {
-    let reply = match row.call() {
-        b"done" => done_reply(alloc, stamp_at(row)?)?,
-        b"stored" => stored(alloc, row)?,
-        b"object" => object(alloc, row)?,
-        b"part" => part(alloc, row)?,
-        b"unchanged" => unchanged_reply(
-            alloc,
-            stamp_at(row)?,
-            number_at(row, 4)?,
-            moment_at(row, 5)?,
-        )?,
-        b"page" => page(alloc, row)?,
-        b"error" => error_reply(alloc, stamp_at(row)?, refused(row)?)?,
-        _ => return Ok(false),
+/// Answers a row of this module, or else of the next.
+pub fn answer(alloc: Global, row: &Row, out: &mut String) -> Result<(), Stop> {
+    let reply = match row.text(0)? {
+        "done" => done_reply(alloc, stamp_at(row)?)?,
+        "stored" => stored(alloc, row)?,
+        "object" => object(alloc, row)?,
+        "part" => part(alloc, row)?,
+        "unchanged" => unchanged(alloc, row)?,
+        "page" => page(alloc, row)?,
+        "error" => error_reply(alloc, stamp_at(row)?, refused(row)?)?,
+        _ => return listing::answer(alloc, row, out),
     };
-    put_reply(alloc, &reply, out)?;
-    Ok(true)
+    put_reply(alloc, &reply, out)
+}
+
+// `unchanged .. NUMBER MTIME`.
+fn unchanged(alloc: Global, row: &Row) -> Result<Reply<u64>, Stop> {
+    let stamp = stamp_at(row)?;
+    let number = number_at(row, 4)?;
+    Ok(unchanged_reply(alloc, stamp, number, moment_at(row, 5)?)?)
 }
 
 fn moment_at(row: &Row, place: usize) -> Result<u64, Stop>
@@ -64,9 +66,9 @@ fn number_at(row: &Row, place: usize) -> Result<u64, Stop>
 fn stamp_at(row: &Row) -> Result<Stamp, Stop>
     ensures { IfOk result (λ stamp. stamp.moment ≤ LAST_MOMENT) }
 {
-    let closes = match row.bytes(1)? {
-        b"closes" => true,
-        b"stays" => false,
+    let closes = match row.text(1)? {
+        "closes" => true,
+        "stays" => false,
         _ => return Err(Stop::NoSuchRow),
     };
     Ok(Stamp {
@@ -95,22 +97,34 @@ fn durability(level: u64) -> Option<u8> {
 fn object_at(alloc: Global, row: &Row, place: usize) -> Result<Object<u64>, Stop>
     ensures { IfOk result (λ object. (object.number < 2 ^ 62) × (object.mtime ≤ LAST_MOMENT)) }
 {
-    let mut metadata = Sequence::new(alloc);
-    for name in (place.saturating_add(4)..row.len()).step_by(2) {
-        metadata.push(Field {
-            name: Text::from_str(alloc, row.text(name)?)?,
-            value: Bytes::from_slice(alloc, row.bytes(name.wrapping_add(1))?)?,
-        })?;
-    }
+    let number = number_at(row, place)?;
+    let mtime = moment_at(row, place.saturating_add(1))?;
     let level = row.number(place.saturating_add(3))?;
+    let content_type = Text::from_str(alloc, row.text(place.saturating_add(2))?)?;
+    let metadata = fields_from(alloc, row, place.saturating_add(4))?;
     Ok(Object {
-        number: number_at(row, place)?,
+        number,
         body: 5,
-        content_type: Text::from_str(alloc, row.text(place.saturating_add(2))?)?,
+        content_type,
         durability: durability(level),
         metadata,
-        mtime: moment_at(row, place.saturating_add(1))?,
+        mtime,
     })
+}
+
+// The fields whose names and values stand from a place on.
+fn fields_from(alloc: Global, row: &Row, from: usize) -> Result<Sequence<Field>, Stop> {
+    let mut fields = Sequence::new(alloc);
+    for place in (from..row.len()).step_by(2) {
+        fields.push(field_of(alloc, row.text(place)?, row.bytes(place.wrapping_add(1))?)?)?;
+    }
+    Ok(fields)
+}
+
+fn field_of(alloc: Global, name: &str, value: &[u8]) -> Result<Field, AllocError> {
+    let name = Text::from_str(alloc, name)?;
+    let value = Bytes::from_slice(alloc, value)?;
+    Ok(Field { name, value })
 }
 
 // `object .. TEXT NUMBER MTIME TYPE LEVEL NAME VALUE ..`, the level 0 for none.
@@ -149,16 +163,20 @@ fn refused(row: &Row) -> Result<Refused, Stop> {
         return Err(Stop::NoSuchRow);
     };
     match code {
-        ErrorCode::MethodNotAllowed => match row.bytes(5)? {
-            b"Rows" => Ok(Refused::not_allowed(Methods::Rows)),
-            b"Reads" => Ok(Refused::not_allowed(Methods::Reads)),
-            b"ReadsAndPosts" => Ok(Refused::not_allowed(Methods::ReadsAndPosts)),
-            b"Posts" => Ok(Refused::not_allowed(Methods::Posts)),
-            b"Puts" => Ok(Refused::not_allowed(Methods::Puts)),
-            _ => Err(Stop::NoSuchRow),
-        },
+        ErrorCode::MethodNotAllowed => Ok(Refused::not_allowed(methods_named(row.text(5)?)?)),
         ErrorCode::RangeNotSatisfiable => Ok(Refused::cannot_meet(row.number(5)?)),
         _ => Ok(Refused::plain(code)),
+    }
+}
+
+fn methods_named(name: &str) -> Result<Methods, Stop> {
+    match name {
+        "Rows" => Ok(Methods::Rows),
+        "Reads" => Ok(Methods::Reads),
+        "ReadsAndPosts" => Ok(Methods::ReadsAndPosts),
+        "Posts" => Ok(Methods::Posts),
+        "Puts" => Ok(Methods::Puts),
+        _ => Err(Stop::NoSuchRow),
     }
 }
 
@@ -175,6 +193,5 @@ fn put_reply(alloc: Global, reply: &Reply<u64>, out: &mut String) -> Result<(), 
             let _ = write_head(alloc, &mut sink, reply, to.saturating_sub(*from));
         }
     }
-    put_lines(out, sink.written())?;
-    Ok(())
+    Ok(put_lines(out, sink.written())?)
 }

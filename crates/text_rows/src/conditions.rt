@@ -1,60 +1,61 @@
 //! The calls of `mt_cond`.
+use crate::{identifiers, put_shown};
 use mt_cond::{Conditions, Range, judge, range_of};
 use mt_rows::{Row, Stop};
 use mt_types::{Bytes, Field, Fields, Object, Sequence, Text};
 use std::alloc::{AllocError, Global};
 
-/// Answers a row of this module; `false` for another row.
-pub fn answer(alloc: Global, row: &Row, out: &mut String) -> Result<bool, Stop> {
-    match row.call() {
-        b"judge" => {
-            let object = object(alloc, row.number(1)?, row.number(2)?)?;
-            put_verdicts(alloc, &fields_from(alloc, row, 3)?, &object, out)?;
-        }
-        b"judge-read" => {
-            let object = object(alloc, row.number(1)?, row.number(2)?)?;
-            let conditions = Conditions::read(alloc, &fields_from(alloc, row, 3)?)?;
-            write!(out, "{:?}", judge(&conditions, Some(&object), true))?;
-        }
-        b"conditions" => {
-            let conditions = Conditions::read(alloc, &fields_from(alloc, row, 1)?)?;
-            write!(out, "{conditions:?}")?;
-        }
-        b"tags" => put_tags(alloc, row, out)?,
-        b"range" => put_range(&fields_from(alloc, row, 2)?, row.number(1)?, out)?,
-        _ => return Ok(false),
+/// Answers a row of this module, or else of the next.
+pub fn answer(alloc: Global, row: &Row, out: &mut String) -> Result<(), Stop> {
+    match row.text(0)? {
+        "judge" => put_verdicts(alloc, row, out),
+        "judge-read" => put_verdict(alloc, row, out),
+        "conditions" => put_conditions(alloc, row, out),
+        "tags" => put_tags(alloc, row, out),
+        "range" => put_range(alloc, row, out),
+        _ => identifiers::answer(alloc, row, out),
     }
-    Ok(true)
+}
+
+fn conditions_from(alloc: Global, row: &Row, from: usize) -> Result<Conditions, Stop> {
+    let fields = fields_from(alloc, row, from)?;
+    Ok(Conditions::read(alloc, &fields)?)
+}
+
+fn put_conditions(alloc: Global, row: &Row, out: &mut String) -> Result<(), Stop> {
+    let conditions = conditions_from(alloc, row, 1)?;
+    put_shown(out, &conditions)
 }
 
 // The fields whose names and values stand from a place on.
 fn fields_from(alloc: Global, row: &Row, from: usize) -> Result<Fields, Stop> {
     let mut fields = Sequence::new(alloc);
     for place in (from..row.len()).step_by(2) {
-        fields.push(Field {
-            name: Text::from_str(alloc, row.text(place)?)?,
-            value: Bytes::from_slice(alloc, row.bytes(place.wrapping_add(1))?)?,
-        })?;
+        fields.push(field_of(alloc, row.text(place)?, row.bytes(place.wrapping_add(1))?)?)?;
     }
     Ok(fields)
+}
+
+fn field_of(alloc: Global, name: &str, value: &[u8]) -> Result<Field, AllocError> {
+    let name = Text::from_str(alloc, name)?;
+    let value = Bytes::from_slice(alloc, value)?;
+    Ok(Field { name, value })
 }
 
 // The tags of If-Match fields with these values.
 fn put_tags(alloc: Global, row: &Row, out: &mut String) -> Result<(), Stop> {
     let mut fields = Sequence::new(alloc);
     for place in 1..row.len() {
-        fields.push(Field {
-            name: Text::from_str(alloc, "if-match")?,
-            value: Bytes::from_slice(alloc, row.bytes(place)?)?,
-        })?;
+        fields.push(field_of(alloc, "if-match", row.bytes(place)?)?)?;
     }
     let conditions = Conditions::read(alloc, &fields)?;
-    write!(out, "{:?}", conditions.if_match)?;
-    Ok(())
+    put_shown(out, &conditions.if_match)
 }
 
-// An object whose body is no matter.
-fn object(alloc: Global, number: u64, mtime: u64) -> Result<Object<u8>, AllocError> {
+// The object of this number and this moment; its body is no matter.
+fn object_of(alloc: Global, row: &Row) -> Result<Object<u8>, Stop> {
+    let number = row.number(1)?;
+    let mtime = row.number(2)?;
     Ok(Object {
         number,
         body: 0,
@@ -66,24 +67,29 @@ fn object(alloc: Global, number: u64, mtime: u64) -> Result<Object<u8>, AllocErr
 }
 
 // What a read of an object, a write over it, and a write where none is are told.
-fn put_verdicts(
-    alloc: Global,
-    fields: &Fields,
-    object: &Object<u8>,
-    out: &mut String,
-) -> Result<(), AllocError> {
-    let conditions = Conditions::read(alloc, fields)?;
-    let read = judge(&conditions, Some(object), true);
-    let write = judge(&conditions, Some(object), false);
+fn put_verdicts(alloc: Global, row: &Row, out: &mut String) -> Result<(), Stop> {
+    let object = object_of(alloc, row)?;
+    let conditions = conditions_from(alloc, row, 3)?;
+    let read = judge(&conditions, Some(&object), true);
+    let write = judge(&conditions, Some(&object), false);
     let none: Option<&Object<u8>> = None;
     let anew = judge(&conditions, none, false);
-    write!(out, "read {read:?}, write {write:?}, anew {anew:?}")
+    Ok(write!(out, "read {read:?}, write {write:?}, anew {anew:?}")?)
+}
+
+// What a read of an object is told.
+fn put_verdict(alloc: Global, row: &Row, out: &mut String) -> Result<(), Stop> {
+    let object = object_of(alloc, row)?;
+    let conditions = conditions_from(alloc, row, 3)?;
+    put_shown(out, &judge(&conditions, Some(&object), true))
 }
 
 // The range that fields ask for, and what it gets of an object of this length.
-fn put_range(fields: &Fields, len: u64, out: &mut String) -> Result<(), AllocError> {
-    match Range::read(fields) {
-        Some(range) => write!(out, "{:?}: {:?}", range, range_of(&range, len)),
-        None => out.push_str("None"),
+fn put_range(alloc: Global, row: &Row, out: &mut String) -> Result<(), Stop> {
+    let len = row.number(1)?;
+    let fields = fields_from(alloc, row, 2)?;
+    match Range::read(&fields) {
+        Some(range) => Ok(write!(out, "{:?}: {:?}", range, range_of(&range, len))?),
+        None => Ok(out.push_str("None")?),
     }
 }

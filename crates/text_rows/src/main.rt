@@ -2,7 +2,7 @@
 //! their table of cases.
 //!
 //! - `paths`: `mt_path`. `conditions`: `mt_cond`. `identifiers`: `mt_ident`. `numbers`: `mt_bytes`.
-//! - `values`: `mt_base`.
+//! - `values`: `mt_base`. Each leaves the rows that it doesn't know to the next.
 #![tactic(auto)]
 
 mod conditions;
@@ -13,6 +13,7 @@ mod values;
 
 use mt_rows::{Row, Rows, Stop, print_table};
 use std::alloc::Global;
+use std::fmt::Debug;
 use std::io;
 
 #[derive(Drop)]
@@ -26,16 +27,13 @@ impl Rows for Texts {
         row: &Row,
         out: &mut String,
     ) -> Result<(), Stop> {
-        if paths::answer(alloc, row, out)?
-            || conditions::answer(alloc, row, out)?
-            || identifiers::answer(row, out)?
-            || numbers::answer(alloc, row, out)?
-            || values::answer(alloc, row, out)?
-        {
-            return Ok(());
-        }
-        Err(Stop::NoSuchRow)
+        paths::answer(alloc, row, out)
     }
+}
+
+/// Appends a value as it is debugged.
+pub fn put_shown<T: Debug>(out: &mut String, value: &T) -> Result<(), Stop> {
+    Ok(write!(out, "{value:?}")?)
 }
 
 fn main(rt: HostRuntime) -> io::Result<()> {

@@ -1,61 +1,36 @@
 //! The calls of `mt_path`.
+use crate::{conditions, put_shown};
 use mt_path::{
     Area, Bytes, Duplicate, Path, PathError, is_component, is_login, laws, target_names,
 };
 use mt_rows::{Row, Stop, put_escaped};
-use std::alloc::{AllocError, Global};
+use std::alloc::Global;
 
-/// Answers a row of this module; `false` for another row.
-pub fn answer(alloc: Global, row: &Row, out: &mut String) -> Result<bool, Stop> {
-    match row.call() {
-        b"target" => {
-            let path = Path::parse(alloc, row.text(1)?, row.bytes(2)?);
-            put_path(alloc, path, out)?;
-        }
-        b"text" => {
-            let path = Path::plain(alloc, row.text(1)?, row.bytes(2)?);
-            put_path(alloc, path, out)?;
-        }
-        b"names" => {
-            let names = target_names(alloc, row.text(1)?, row.bytes(2)?);
-            match names {
-                Ok(names) => put_names(out, names.as_slice())?,
-                Err(error) => write!(out, "{error:?}")?,
-            }
-        }
-        b"is-login" => write!(out, "{}", is_login(row.bytes(1)?))?,
-        b"is-component" => write!(out, "{}", is_component(row.bytes(1)?))?,
-        b"area" => put_area(out, row.bytes(1)?)?,
-        b"root" => match Area::named(row.bytes(1)?) {
-            Some(area) => put_path(alloc, Ok(Path::root(alloc, area)), out)?,
-            None => return Err(Stop::NoSuchRow),
-        },
-        _ => return answer_at_path(alloc, row, out),
+/// Answers a row of this module, or else of the next.
+pub fn answer(alloc: Global, row: &Row, out: &mut String) -> Result<(), Stop> {
+    match row.text(0)? {
+        "target" => put_target(alloc, row, out),
+        "text" => put_plain(alloc, row, out),
+        "names" => put_target_names(alloc, row, out),
+        "is-login" => put_shown(out, &is_login(row.bytes(1)?)),
+        "is-component" => put_shown(out, &is_component(row.bytes(1)?)),
+        "area" => put_area(out, row.bytes(1)?),
+        "root" => put_root(alloc, row, out),
+        _ => answer_at_path(alloc, row, out),
     }
-    Ok(true)
 }
 
 // Answers a row that begins with a path.
-fn answer_at_path(alloc: Global, row: &Row, out: &mut String) -> Result<bool, Stop> {
-    match row.call() {
-        b"path" => put_parts(alloc, &path_at(alloc, row, 1)?, out)?,
-        b"part" => put_part(&path_at(alloc, row, 1)?, row.number(2)?, out)?,
-        b"parent" => match path_at(alloc, row, 1)?.parent(alloc)? {
-            Some(parent) => put_path(alloc, Ok(parent), out)?,
-            None => out.push_str("None")?,
-        },
-        b"child" => {
-            let child = path_at(alloc, row, 1)?.child(alloc, row.bytes(2)?);
-            put_path(alloc, child, out)?;
-        }
-        b"two-paths" => put_relation(out, &path_at(alloc, row, 1)?, &path_at(alloc, row, 2)?)?,
-        b"printed-again" => {
-            let again = laws::printed_again(alloc, "l", &path_at(alloc, row, 1)?);
-            put_path(alloc, again, out)?;
-        }
-        _ => return Ok(false),
+fn answer_at_path(alloc: Global, row: &Row, out: &mut String) -> Result<(), Stop> {
+    match row.text(0)? {
+        "path" => put_parts(alloc, row, out),
+        "part" => put_part(alloc, row, out),
+        "parent" => put_parent(alloc, row, out),
+        "child" => put_child(alloc, row, out),
+        "two-paths" => put_relation(alloc, row, out),
+        "printed-again" => put_again(alloc, row, out),
+        _ => conditions::answer(alloc, row, out),
     }
-    Ok(true)
 }
 
 // The path of a text behind the login `l`.
@@ -67,18 +42,30 @@ fn path_at(alloc: Global, row: &Row, place: usize) -> Result<Path, Stop> {
 }
 
 // The text of a path behind the login `l`, or why there is none.
-fn put_path(
-    alloc: Global,
-    path: Result<Path, PathError>,
-    out: &mut String,
-) -> Result<(), AllocError> {
-    match path {
-        Ok(path) => put_escaped(out, path.print(alloc, "l")?.as_bytes()),
-        Err(error) => write!(out, "{error:?}"),
+fn put_path(alloc: Global, path: Result<Path, PathError>, out: &mut String) -> Result<(), Stop> {
+    match &path {
+        Ok(path) => Ok(put_escaped(out, path.print(alloc, "l")?.as_bytes())?),
+        Err(error) => put_shown(out, error),
     }
 }
 
-fn put_names(out: &mut String, names: &[Bytes]) -> Result<(), AllocError> {
+fn put_target(alloc: Global, row: &Row, out: &mut String) -> Result<(), Stop> {
+    put_path(alloc, Path::parse(alloc, row.text(1)?, row.bytes(2)?), out)
+}
+
+fn put_plain(alloc: Global, row: &Row, out: &mut String) -> Result<(), Stop> {
+    put_path(alloc, Path::plain(alloc, row.text(1)?, row.bytes(2)?), out)
+}
+
+fn put_target_names(alloc: Global, row: &Row, out: &mut String) -> Result<(), Stop> {
+    let names = target_names(alloc, row.text(1)?, row.bytes(2)?);
+    match &names {
+        Ok(names) => put_names(out, names.as_slice()),
+        Err(error) => put_shown(out, error),
+    }
+}
+
+fn put_names(out: &mut String, names: &[Bytes]) -> Result<(), Stop> {
     write!(out, "{}", names.len())?;
     for name in names {
         out.push(' ')?;
@@ -87,40 +74,71 @@ fn put_names(out: &mut String, names: &[Bytes]) -> Result<(), AllocError> {
     Ok(())
 }
 
-fn put_area(out: &mut String, name: &[u8]) -> Result<(), AllocError> {
+fn put_area(out: &mut String, name: &[u8]) -> Result<(), Stop> {
     match Area::named(name) {
-        Some(area) => write!(out, "{:?} {} {}", area, area.name(), area.number()),
-        None => out.push_str("None"),
+        Some(area) => Ok(write!(out, "{:?} {} {}", area, area.name(), area.number())?),
+        None => Ok(out.push_str("None")?),
+    }
+}
+
+fn put_root(alloc: Global, row: &Row, out: &mut String) -> Result<(), Stop> {
+    match Area::named(row.bytes(1)?) {
+        Some(area) => put_path(alloc, Ok(Path::root(alloc, area)), out),
+        None => Err(Stop::NoSuchRow),
     }
 }
 
 // What a path, its copy and the path of its parts are.
-fn put_parts(alloc: Global, path: &Path, out: &mut String) -> Result<(), AllocError> {
+fn put_parts(alloc: Global, row: &Row, out: &mut String) -> Result<(), Stop> {
+    let path = path_at(alloc, row, 1)?;
     let area = path.area();
     write!(out, "{:?}, root {}, ", area, path.is_root())?;
     put_names(out, path.parts())?;
-    let again = Path::from_parts(area, path.copy(alloc)?.into_parts());
     out.push_str(", ")?;
-    put_path(alloc, Ok(again), out)
+    let copy = path.copy(alloc)?;
+    put_path(alloc, Ok(Path::from_parts(area, copy.into_parts())), out)
 }
 
 // One part of a path, and how many it has. A row may ask for parts that there are alone.
-fn put_part(path: &Path, place: u64, out: &mut String) -> Result<(), Stop> {
+fn put_part(alloc: Global, row: &Row, out: &mut String) -> Result<(), Stop> {
+    let place = row.number(2)?;
+    let path = path_at(alloc, row, 1)?;
     if place >= path.len() as u64 {
         return Err(Stop::NoSuchRow);
     }
     put_escaped(out, path.part(place as usize))?;
-    write!(out, " of {}", path.len())?;
-    Ok(())
+    Ok(write!(out, " of {}", path.len())?)
 }
 
-fn put_relation(out: &mut String, one: &Path, two: &Path) -> Result<(), AllocError> {
-    let order = one.cmp(two);
-    let is_under = one.is_under(two);
-    let same_parent = one.same_parent(two);
-    write!(
+fn put_parent(alloc: Global, row: &Row, out: &mut String) -> Result<(), Stop> {
+    let path = path_at(alloc, row, 1)?;
+    match path.parent(alloc)? {
+        Some(parent) => put_path(alloc, Ok(parent), out),
+        None => Ok(out.push_str("None")?),
+    }
+}
+
+fn put_child(alloc: Global, row: &Row, out: &mut String) -> Result<(), Stop> {
+    let name = row.bytes(2)?;
+    let path = path_at(alloc, row, 1)?;
+    put_path(alloc, path.child(alloc, name), out)
+}
+
+// How two paths are related.
+fn put_relation(alloc: Global, row: &Row, out: &mut String) -> Result<(), Stop> {
+    let one = path_at(alloc, row, 1)?;
+    let two = path_at(alloc, row, 2)?;
+    Ok(write!(
         out,
-        "{order:?}, equal {}, under {is_under}, same parent {same_parent}",
-        one == two
-    )
+        "{:?}, equal {}, under {}, same parent {}",
+        one.cmp(&two),
+        one == two,
+        one.is_under(&two),
+        one.same_parent(&two)
+    )?)
+}
+
+fn put_again(alloc: Global, row: &Row, out: &mut String) -> Result<(), Stop> {
+    let path = path_at(alloc, row, 1)?;
+    put_path(alloc, laws::printed_again(alloc, "l", &path), out)
 }

@@ -1,48 +1,67 @@
 //! The calls of `mt_base`: the lists at numbers and at texts.
+use crate::put_shown;
 use mt_base::{Bytes, Duplicate, Sequence, Text};
 use mt_rows::{Row, Stop, put_escaped};
-use std::alloc::{AllocError, Global};
+use std::alloc::Global;
 
 /// The word between two lists.
 const BETWEEN: &[u8] = b"and";
 
-/// Answers a row of this module; `false` for another row.
-pub fn answer(alloc: Global, row: &Row, out: &mut String) -> Result<bool, Stop> {
-    match row.call() {
-        b"bytes-value" => put_bytes_value(alloc, row.bytes(1)?, out)?,
-        b"text-value" => put_text_value(alloc, row.text(1)?, out)?,
-        b"list" => put_list(alloc, &numbers_in(alloc, row, 1, row.len())?, out)?,
-        b"copy-number" => put_copy(alloc, row.bytes(1)?, row.number(2)?, out)?,
-        b"two-values" => put_two_values(alloc, row, out)?,
-        b"two-lists" => put_two_lists(alloc, row, out)?,
-        _ => return Ok(false),
+/// Answers a row of this module.
+pub fn answer(alloc: Global, row: &Row, out: &mut String) -> Result<(), Stop> {
+    match row.text(0)? {
+        "bytes-value" => put_bytes_value(alloc, row.bytes(1)?, out),
+        "text-value" => put_text_value(alloc, row.text(1)?, out),
+        "list" => put_list(alloc, row, out),
+        "copy-number" => put_copy(alloc, row.text(1)?, row.number(2)?, out),
+        "two-values" => put_two_values(alloc, row, out),
+        "two-lists" => put_two_lists(alloc, row, out),
+        _ => Err(Stop::NoSuchRow),
     }
-    Ok(true)
 }
 
 // Bytes, the bytes of their copy's vector, and whether the copy is equal.
-fn put_bytes_value(alloc: Global, word: &[u8], out: &mut String) -> Result<(), AllocError> {
+fn put_bytes_value(alloc: Global, word: &[u8], out: &mut String) -> Result<(), Stop> {
     let bytes = Bytes::from_slice(alloc, word)?;
-    write!(out, "{} ", bytes.len())?;
-    put_escaped(out, bytes.as_slice())?;
     let copy = bytes.copy(alloc)?;
     let is_equal = copy == bytes;
-    out.push_str(", again ")?;
-    put_escaped(out, Bytes::from_vec(copy.into_vec()).as_slice())?;
-    write!(out, ", copy equal {is_equal}")
+    let again = Bytes::from_vec(copy.into_vec());
+    put_value(
+        out,
+        bytes.len(),
+        bytes.as_slice(),
+        again.as_slice(),
+        is_equal,
+    )
 }
 
 // A text, the text of its copy's string, and whether the copy is equal.
-fn put_text_value(alloc: Global, word: &str, out: &mut String) -> Result<(), AllocError> {
+fn put_text_value(alloc: Global, word: &str, out: &mut String) -> Result<(), Stop> {
     let text = Text::from_str(alloc, word)?;
-    write!(out, "{} ", text.len())?;
-    put_escaped(out, text.as_bytes())?;
     let copy = text.copy(alloc)?;
     let is_equal = copy == text;
-    out.push_str(", again ")?;
     let again = Text::from_string(copy.into_string());
-    put_escaped(out, again.as_str().as_bytes())?;
-    write!(out, ", copy equal {is_equal}")
+    put_value(
+        out,
+        text.len(),
+        text.as_bytes(),
+        again.as_str().as_bytes(),
+        is_equal,
+    )
+}
+
+fn put_value(
+    out: &mut String,
+    len: usize,
+    bytes: &[u8],
+    again: &[u8],
+    is_equal: bool,
+) -> Result<(), Stop> {
+    write!(out, "{len} ")?;
+    put_escaped(out, bytes)?;
+    out.push_str(", again ")?;
+    put_escaped(out, again)?;
+    Ok(write!(out, ", copy equal {is_equal}")?)
 }
 
 // The numbers from a place up to another, `none` for none.
@@ -54,8 +73,8 @@ fn numbers_in(
 ) -> Result<Sequence<Option<u64>>, Stop> {
     let mut numbers = Sequence::new(alloc);
     for place in from..to {
-        match row.bytes(place)? {
-            b"none" => numbers.push(None)?,
+        match row.text(place)? {
+            "none" => numbers.push(None)?,
             _ => numbers.push(Some(row.number(place)?))?,
         }
     }
@@ -72,41 +91,52 @@ fn texts_in(alloc: Global, row: &Row, from: usize, to: usize) -> Result<Sequence
 }
 
 // A list, its copy, the copy with one value more, and the list of the first copy's vector.
-fn put_list(
-    alloc: Global,
-    list: &Sequence<Option<u64>>,
-    out: &mut String,
-) -> Result<(), AllocError> {
+fn put_list(alloc: Global, row: &Row, out: &mut String) -> Result<(), Stop> {
+    let list = numbers_in(alloc, row, 1, row.len())?;
     let copy = list.copy(alloc)?;
     let mut longer = list.copy(alloc)?;
     longer.push(None)?;
-    write!(out, "{} {:?}, ", list.len(), list.as_slice())?;
-    write!(out, "copy equal {}, ", copy == *list)?;
-    write!(out, "longer equal {}, ", longer == *list)?;
+    let is_equal = copy == list;
     let again = Sequence::from_vec(copy.into_vec());
-    write!(out, "again {:?}", again.as_slice())
+    Ok(write!(
+        out,
+        "{} {:?}, copy equal {is_equal}, longer equal {}, again {:?}",
+        list.len(),
+        list.as_slice(),
+        longer == list,
+        again.as_slice()
+    )?)
 }
 
 // The copy of a number of this many bits.
-fn put_copy(alloc: Global, width: &[u8], number: u64, out: &mut String) -> Result<(), Stop> {
+fn put_copy(alloc: Global, width: &str, number: u64, out: &mut String) -> Result<(), Stop> {
     match width {
-        b"8" if number < 1 << 8 => write!(out, "{}", (number as u8).copy(alloc)?)?,
-        b"32" if number < 1 << 32 => write!(out, "{}", (number as u32).copy(alloc)?)?,
-        b"64" => write!(out, "{}", number.copy(alloc)?)?,
-        _ => return Err(Stop::NoSuchRow),
+        "8" if number < 1 << 8 => put_shown(out, &(number as u8).copy(alloc)?),
+        "32" if number < 1 << 32 => put_shown(out, &(number as u32).copy(alloc)?),
+        "64" => put_shown(out, &number.copy(alloc)?),
+        _ => Err(Stop::NoSuchRow),
     }
-    Ok(())
 }
 
 // How two words compare, as texts and as bytes.
 fn put_two_values(alloc: Global, row: &Row, out: &mut String) -> Result<(), Stop> {
     let one = Text::from_str(alloc, row.text(1)?)?;
     let two = Text::from_str(alloc, row.text(2)?)?;
-    write!(out, "texts {:?}, equal {}, ", one.cmp(&two), one == two)?;
+    out.push_str("texts ")?;
+    put_compared(out, &one, &two)?;
+    out.push_str(", bytes ")?;
+    put_two_bytes(alloc, row, out)
+}
+
+fn put_two_bytes(alloc: Global, row: &Row, out: &mut String) -> Result<(), Stop> {
     let one = Bytes::from_slice(alloc, row.bytes(1)?)?;
     let two = Bytes::from_slice(alloc, row.bytes(2)?)?;
-    write!(out, "bytes {:?}, equal {}", one.cmp(&two), one == two)?;
-    Ok(())
+    put_compared(out, &one, &two)
+}
+
+// How two values compare, and whether they are equal.
+fn put_compared<T: Ord>(out: &mut String, one: &T, two: &T) -> Result<(), Stop> {
+    Ok(write!(out, "{:?}, equal {}", one.cmp(two), one == two)?)
 }
 
 // The place of the word between two lists.
@@ -122,19 +152,26 @@ fn place_between(row: &Row) -> Result<usize, Stop> {
 // How two lists of numbers, or of texts, compare.
 fn put_two_lists(alloc: Global, row: &Row, out: &mut String) -> Result<(), Stop> {
     let place = place_between(row)?;
-    let behind = place.wrapping_add(1);
-    match row.bytes(1)? {
-        b"numbers" => {
-            let one = numbers_in(alloc, row, 2, place)?;
-            let two = numbers_in(alloc, row, behind, row.len())?;
-            write!(out, "{:?}, equal {}", one.cmp(&two), one == two)?;
-        }
-        b"texts" => {
-            let one = texts_in(alloc, row, 2, place)?;
-            let two = texts_in(alloc, row, behind, row.len())?;
-            write!(out, "{:?}, equal {}", one.cmp(&two), one == two)?;
-        }
-        _ => return Err(Stop::NoSuchRow),
+    match row.text(1)? {
+        "numbers" => put_two_of_numbers(alloc, row, place, out),
+        "texts" => put_two_of_texts(alloc, row, place, out),
+        _ => Err(Stop::NoSuchRow),
     }
-    Ok(())
+}
+
+fn put_two_of_numbers(
+    alloc: Global,
+    row: &Row,
+    place: usize,
+    out: &mut String,
+) -> Result<(), Stop> {
+    let one = numbers_in(alloc, row, 2, place)?;
+    let two = numbers_in(alloc, row, place.wrapping_add(1), row.len())?;
+    put_compared(out, &one, &two)
+}
+
+fn put_two_of_texts(alloc: Global, row: &Row, place: usize, out: &mut String) -> Result<(), Stop> {
+    let one = texts_in(alloc, row, 2, place)?;
+    let two = texts_in(alloc, row, place.wrapping_add(1), row.len())?;
+    put_compared(out, &one, &two)
 }

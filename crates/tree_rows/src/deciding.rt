@@ -1,33 +1,46 @@
 //! What may be done, and what a reader finds.
+use crate::listing;
 use crate::words::{conditions_from, path_at};
 use mt_rows::{Row, Stop};
 use mt_store::{Found, StoreError, may_delete, may_link, may_put, read_object};
 use mt_tree::{Refusal, Tree};
+use mt_types::Object;
 use std::alloc::{AllocError, Global};
 
-/// Answers a row of this module; `false` for another row.
-pub fn answer(alloc: Global, tree: &Tree<u64>, row: &Row, out: &mut String) -> Result<bool, Stop> {
-    match row.call() {
-        b"may" => put_tests(alloc, tree, row, out)?,
-        b"writes" => put_writes(alloc, tree, row, out)?,
-        b"link" => {
-            let (path, source) = (path_at(alloc, row, 1)?, path_at(alloc, row, 2)?);
-            let conditions = conditions_from(alloc, row, 3)?;
-            put_decision(may_link(tree, &path, &source, &conditions), out)?;
-        }
-        b"read" => {
-            let path = path_at(alloc, row, 1)?;
-            let conditions = conditions_from(alloc, row, 2)?;
-            match read_object(tree, &path, &conditions) {
-                Ok(Found::Directory) => out.push_str("Directory")?,
-                Ok(Found::Object(object)) => write!(out, "Object {}", object.number)?,
-                Ok(Found::NotModified(object)) => write!(out, "NotModified {}", object.number)?,
-                Err(error) => write!(out, "{error:?}")?,
-            }
-        }
-        _ => return Ok(false),
+/// Answers a row of this module, or else of the next.
+pub fn answer(alloc: Global, tree: &Tree<u64>, row: &Row, out: &mut String) -> Result<(), Stop> {
+    match row.text(0)? {
+        "may" => put_tests(alloc, tree, row, out),
+        "writes" => put_writes(alloc, tree, row, out),
+        "link" => put_link(alloc, tree, row, out),
+        "read" => put_read(alloc, tree, row, out),
+        _ => listing::answer(alloc, tree, row, out),
     }
-    Ok(true)
+}
+
+fn put_link(alloc: Global, tree: &Tree<u64>, row: &Row, out: &mut String) -> Result<(), Stop> {
+    let path = path_at(alloc, row, 1)?;
+    let source = path_at(alloc, row, 2)?;
+    let conditions = conditions_from(alloc, row, 3)?;
+    Ok(put_decision(may_link(tree, &path, &source, &conditions), out)?)
+}
+
+fn put_read(alloc: Global, tree: &Tree<u64>, row: &Row, out: &mut String) -> Result<(), Stop> {
+    let path = path_at(alloc, row, 1)?;
+    let conditions = conditions_from(alloc, row, 2)?;
+    Ok(put_found(read_object(tree, &path, &conditions), out)?)
+}
+
+fn put_found(
+    found: Result<Found<&Object<u64>>, StoreError>,
+    out: &mut String,
+) -> Result<(), AllocError> {
+    match found {
+        Ok(Found::Directory) => out.push_str("Directory"),
+        Ok(Found::Object(object)) => write!(out, "Object {}", object.number),
+        Ok(Found::NotModified(object)) => write!(out, "NotModified {}", object.number),
+        Err(error) => write!(out, "{error:?}"),
+    }
 }
 
 // Whether an object may be put at a path, a directory be made there, and the row be removed, by the tree alone.
@@ -38,8 +51,7 @@ fn put_tests(alloc: Global, tree: &Tree<u64>, row: &Row, out: &mut String) -> Re
     out.push_str(", make ")?;
     put_answer(tree.may_make_directory(&path), out)?;
     out.push_str(", remove ")?;
-    put_answer(tree.may_remove(&path), out)?;
-    Ok(())
+    Ok(put_answer(tree.may_remove(&path), out)?)
 }
 
 fn put_answer(answer: Result<(), Refusal>, out: &mut String) -> Result<(), AllocError> {
@@ -56,8 +68,7 @@ fn put_writes(alloc: Global, tree: &Tree<u64>, row: &Row, out: &mut String) -> R
     out.push_str("put ")?;
     put_decision(may_put(tree, &path, &conditions), out)?;
     out.push_str(", delete ")?;
-    put_decision(may_delete(tree, &path, &conditions), out)?;
-    Ok(())
+    Ok(put_decision(may_delete(tree, &path, &conditions), out)?)
 }
 
 fn put_decision(answer: Result<(), StoreError>, out: &mut String) -> Result<(), AllocError> {

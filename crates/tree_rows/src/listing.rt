@@ -2,7 +2,7 @@
 //! moment.
 use crate::words::path_at;
 use mt_rows::{Row, Stop, put_escaped};
-use mt_tree::{Entry, Listed, Path, Tree, plain};
+use mt_tree::{Entry, Listed, Path, RowList, Tree, plain};
 use std::alloc::{AllocError, Global};
 
 /// More rows than a tree of this table has.
@@ -11,23 +11,31 @@ const ALL: usize = 1_000_000;
 /// A call is made so often at most.
 const MOST_TIMES: u64 = 10_000_000;
 
-/// Answers a row of this module; `false` for another row.
-pub fn answer(alloc: Global, tree: &Tree<u64>, row: &Row, out: &mut String) -> Result<bool, Stop> {
-    match row.call() {
-        b"at" => match tree.get(&path_at(alloc, row, 1)?) {
-            Some(Entry::Directory { mtime }) => write!(out, "Directory {mtime}")?,
-            Some(Entry::Object(object)) => write!(out, "Object {}", object.number)?,
-            None => out.push_str("None")?,
-        },
-        b"list" => put_page(alloc, tree, row, out)?,
-        b"scan" => put_scan(alloc, tree, row, out)?,
-        b"walk" => put_walk(alloc, tree, row, out)?,
-        b"count" => write!(out, "{}", tree.count(&path_at(alloc, row, 1)?))?,
-        b"counts" => put_counts(alloc, tree, row, out)?,
-        b"pages" => put_pages(alloc, tree, row, out)?,
-        _ => return Ok(false),
+/// Answers a row of this module.
+pub fn answer(alloc: Global, tree: &Tree<u64>, row: &Row, out: &mut String) -> Result<(), Stop> {
+    match row.text(0)? {
+        "at" => put_found(alloc, tree, row, out),
+        "list" => put_page(alloc, tree, row, out),
+        "scan" => put_scan(alloc, tree, row, out),
+        "walk" => put_walk(alloc, tree, row, out),
+        "count" => put_count(alloc, tree, row, out),
+        "counts" => put_counts(alloc, tree, row, out),
+        "pages" => put_pages(alloc, tree, row, out),
+        _ => Err(Stop::NoSuchRow),
     }
-    Ok(true)
+}
+
+fn put_found(alloc: Global, tree: &Tree<u64>, row: &Row, out: &mut String) -> Result<(), Stop> {
+    match tree.get(&path_at(alloc, row, 1)?) {
+        Some(Entry::Directory { mtime }) => Ok(write!(out, "Directory {mtime}")?),
+        Some(Entry::Object(object)) => Ok(write!(out, "Object {}", object.number)?),
+        None => Ok(out.push_str("None")?),
+    }
+}
+
+fn put_count(alloc: Global, tree: &Tree<u64>, row: &Row, out: &mut String) -> Result<(), Stop> {
+    let dir = path_at(alloc, row, 1)?;
+    Ok(write!(out, "{}", tree.count(&dir))?)
 }
 
 fn put_entry(entry: &Entry<u64>, out: &mut String) -> Result<(), AllocError> {
@@ -72,55 +80,64 @@ fn put_listed(page: &[Listed<u64>], out: &mut String) -> Result<(), AllocError> 
 
 // `list PATH MARKER LIMIT`: the number of children, and a page of them.
 fn put_page(alloc: Global, tree: &Tree<u64>, row: &Row, out: &mut String) -> Result<(), Stop> {
+    let (marker, limit) = (row.bytes(2)?, size_at(row, 3)?);
     let dir = path_at(alloc, row, 1)?;
-    let page = tree.page(alloc, &dir, row.bytes(2)?, size_at(row, 3)?)?;
+    let page = tree.page(alloc, &dir, marker, limit)?;
     write!(out, "{}:", tree.count(&dir))?;
-    put_listed(&page, out)?;
-    Ok(())
+    Ok(put_listed(&page, out)?)
 }
 
 // The same, by a scan of all rows.
 fn put_scan(alloc: Global, tree: &Tree<u64>, row: &Row, out: &mut String) -> Result<(), Stop> {
+    let (marker, limit) = (row.bytes(2)?, size_at(row, 3)?);
     let dir = path_at(alloc, row, 1)?;
     let all = tree.rows_after(alloc, None, ALL)?;
-    let page = plain::list(alloc, all.as_slice(), &dir, row.bytes(2)?, size_at(row, 3)?)?;
+    let page = plain::list(alloc, all.as_slice(), &dir, marker, limit)?;
     write!(out, "{}:", plain::count(all.as_slice(), &dir))?;
-    put_rows(page.as_slice(), out)?;
-    Ok(())
+    Ok(put_rows(page.as_slice(), out)?)
+}
+
+// The first rows above the path that a row names, or of all.
+fn rows_from(
+    alloc: Global,
+    tree: &Tree<u64>,
+    row: &Row,
+    limit: usize,
+) -> Result<RowList<u64>, Stop> {
+    if row.len() > 2 {
+        let path = path_at(alloc, row, 2)?;
+        return Ok(tree.rows_after(alloc, Some(&path), limit)?);
+    }
+    Ok(tree.rows_after(alloc, None, limit)?)
 }
 
 // `walk LIMIT` from the first row of all, `walk LIMIT PATH` from the first row above a path.
 fn put_walk(alloc: Global, tree: &Tree<u64>, row: &Row, out: &mut String) -> Result<(), Stop> {
     let limit = size_at(row, 1)?;
-    let rows = if row.len() > 2 {
-        tree.rows_after(alloc, Some(&path_at(alloc, row, 2)?), limit)?
-    } else {
-        tree.rows_after(alloc, None, limit)?
-    };
+    let rows = rows_from(alloc, tree, row, limit)?;
     write!(out, "{}:", rows.len())?;
-    put_rows(rows.as_slice(), out)?;
-    Ok(())
+    Ok(put_rows(rows.as_slice(), out)?)
 }
 
 // `counts PATH TIMES`: so many counts, of which the sum is printed.
 fn put_counts(alloc: Global, tree: &Tree<u64>, row: &Row, out: &mut String) -> Result<(), Stop> {
+    let times = row.number(2)?.min(MOST_TIMES);
     let dir: Path = path_at(alloc, row, 1)?;
     let mut sum: u64 = 0;
-    for _ in 0..row.number(2)?.min(MOST_TIMES) {
+    for _ in 0..times {
         sum = sum.wrapping_add(tree.count(&dir));
     }
-    write!(out, "{sum}")?;
-    Ok(())
+    Ok(write!(out, "{sum}")?)
 }
 
 // `pages PATH LIMIT TIMES`: so many first pages, of which the sum of rows is printed.
 fn put_pages(alloc: Global, tree: &Tree<u64>, row: &Row, out: &mut String) -> Result<(), Stop> {
-    let dir = path_at(alloc, row, 1)?;
     let limit = size_at(row, 2)?;
+    let times = row.number(3)?.min(MOST_TIMES);
+    let dir = path_at(alloc, row, 1)?;
     let mut sum: usize = 0;
-    for _ in 0..row.number(3)?.min(MOST_TIMES) {
+    for _ in 0..times {
         sum = sum.wrapping_add(tree.page(alloc, &dir, b"", limit)?.len());
     }
-    write!(out, "{sum}")?;
-    Ok(())
+    Ok(write!(out, "{sum}")?)
 }

@@ -1,6 +1,6 @@
 //! A tree, and the rows that change it.
+use crate::deciding;
 use crate::words::{conditions_from, object, path_at};
-use crate::{deciding, listing};
 use mt_rows::{Row, Rows, Stop};
 use mt_store::may_put;
 use mt_tree::Tree;
@@ -23,31 +23,37 @@ impl Steps {
         })
     }
 
+    // `new`: the three roots again.
+    fn clear(&mut self, alloc: Global) -> Result<(), Stop> {
+        self.tree = Tree::new(alloc)?;
+        Ok(())
+    }
+
     // `put PATH NUMBER NAME VALUE ..`: an object, under conditions.
     fn put(&mut self, alloc: Global, row: &Row, out: &mut String) -> Result<(), Stop> {
+        let number = row.number(2)?;
         let path = path_at(alloc, row, 1)?;
         let conditions = conditions_from(alloc, row, 3)?;
         match may_put(&self.tree, &path, &conditions) {
             Ok(()) => {
-                self.tree.put_object(path, object(alloc, row.number(2)?)?)?;
-                out.push_str("Ok")?;
+                self.tree.put_object(path, object(alloc, number)?)?;
+                Ok(out.push_str("Ok")?)
             }
-            Err(error) => write!(out, "{error:?}")?,
+            Err(error) => Ok(write!(out, "{error:?}")?),
         }
-        Ok(())
     }
 
     // `directory PATH MOMENT`
     fn make(&mut self, alloc: Global, row: &Row, out: &mut String) -> Result<(), Stop> {
+        let moment = row.number(2)?;
         let path = path_at(alloc, row, 1)?;
         match self.tree.may_make_directory(&path) {
             Ok(()) => {
-                self.tree.make_directory(path, row.number(2)?)?;
-                out.push_str("Ok")?;
+                self.tree.make_directory(path, moment)?;
+                Ok(out.push_str("Ok")?)
             }
-            Err(refusal) => write!(out, "{refusal:?}")?,
+            Err(refusal) => Ok(write!(out, "{refusal:?}")?),
         }
-        Ok(())
     }
 
     // `remove PATH`
@@ -56,11 +62,10 @@ impl Steps {
         match self.tree.may_remove(&path) {
             Ok(()) => {
                 self.tree.remove(&path);
-                out.push_str("Ok")?;
+                Ok(out.push_str("Ok")?)
             }
-            Err(refusal) => write!(out, "{refusal:?}")?,
+            Err(refusal) => Ok(write!(out, "{refusal:?}")?),
         }
-        Ok(())
     }
 
     // `objects PATH COUNT`: the objects `o0`, `o1` and so on below a path.
@@ -87,20 +92,13 @@ impl Rows for Steps {
         row: &Row,
         out: &mut String,
     ) -> Result<(), Stop> {
-        match row.call() {
-            b"new" => self.tree = Tree::new(alloc)?,
-            b"put" => self.put(alloc, row, out)?,
-            b"directory" => self.make(alloc, row, out)?,
-            b"remove" => self.remove(alloc, row, out)?,
-            b"objects" => self.put_many(alloc, row)?,
-            _ => {
-                if !deciding::answer(alloc, &self.tree, row, out)?
-                    && !listing::answer(alloc, &self.tree, row, out)?
-                {
-                    return Err(Stop::NoSuchRow);
-                }
-            }
+        match row.text(0)? {
+            "new" => self.clear(alloc),
+            "put" => self.put(alloc, row, out),
+            "directory" => self.make(alloc, row, out),
+            "remove" => self.remove(alloc, row, out),
+            "objects" => self.put_many(alloc, row),
+            _ => deciding::answer(alloc, &self.tree, row, out),
         }
-        Ok(())
     }
 }
