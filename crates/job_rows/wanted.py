@@ -1,5 +1,5 @@
 #!/usr/bin/env python3
-"""Prints the table of job_rows with the wanted answers: documents are judged by Python's json, lines by its hashlib."""
+"""Prints the table of job_rows with the wanted answers: documents are judged by Python's json, lines by its hashlib, tasks by plain lists."""
 import hashlib
 import json
 import random
@@ -221,6 +221,113 @@ def split_row(n, text, delimiter=None, numbers=()):
     row(" ".join(["split", str(n), word(text), *words]), "".join(f"[{escaped(it)}]" for it in parts))
 
 
+class Job:
+    """A job as plain lists: the items that were fed to each phase, and the tasks that are committed."""
+
+    def __init__(self, kinds):
+        self.kinds, self.fed, self.done, self.ended = kinds, [0] * len(kinds), set(), False
+
+    def places(self, p):
+        return self.fed[p] if self.kinds[p] == "map" else self.kinds[p]
+
+    def complete(self, phases):
+        return all((p, k) in self.done for p in range(phases) for k in range(self.places(p)))
+
+    def is_place(self, p, k):
+        return p < len(self.kinds) and k < self.places(p)
+
+    def is_task(self, p, k):
+        return self.is_place(p, k) and (self.kinds[p] == "map" or self.ended and self.complete(p))
+
+    def ready(self):
+        return [(p, k) for p in range(len(self.kinds)) for k in range(self.places(p)) if self.is_task(p, k) and (p, k) not in self.done]
+
+    def waits(self):
+        return self.ended and self.complete(len(self.kinds))
+
+
+class Queues:
+    def __init__(self):
+        self.jobs, self.made = {}, 0
+
+    def next(self, skip=()):
+        tasks = [(j, *t) for j in sorted(self.jobs) for t in self.jobs[j].ready() if (j, *t) not in skip]
+        waiting = [j for j in sorted(self.jobs) if self.jobs[j].waits()]
+        return (" ".join(map(str, tasks[0])) if tasks else "-") + (f", {waiting[0]} waits" if waiting else "")
+
+    def change(self, call, *words):
+        job = self.jobs.get(words[0]) if words else None
+        if call == "add":
+            self.jobs[self.made] = Job(list(words))
+            self.made += 1
+        elif call == "remove":
+            self.jobs.pop(words[0], None)
+        elif job and call == "end":
+            job.ended = True
+        elif job and call == "feed" and words[1] < len(job.kinds):
+            job.fed[words[1]] += 1
+        elif job and call == "commit" and job.is_place(*words[1:]):
+            job.done.add(words[1:])
+
+    def facts(self, j, p, k):
+        job = self.jobs.get(j)
+        if not job:
+            return "none"
+        holds = (job.is_task(p, k), job.is_place(p, k) and (p, k) in job.done, (p, k) in job.ready(), job.complete(len(job.kinds)))
+        return "".join(mark if it else "-" for mark, it in zip("TCRA", holds))
+
+    def play(self, text):
+        call, *words = text.split()
+        words = [int(it) if it.isdigit() else it for it in words]
+        if call == "next":
+            row(text, self.next({tuple(words[i:i + 3]) for i in range(0, len(words), 3)}))
+        elif call == "task":
+            row(text, self.facts(*words))
+        else:
+            self.change(call, *words)
+            row(text, self.next())
+
+
+BY_STEPS = (
+    ("One map phase: each item that is fed is a task.",
+     "next, feed 0 0, add map, feed 0 0, feed 0 0, next 0 0 0, next 0 0 0 0 0 1, task 0 0 0, task 0 0 2, commit 0 0 0, task 0 0 0, commit 0 0 0, commit 0 0 7, feed 0 0, next 0 0 1,"
+     "commit 0 0 1, commit 0 0 2, task 0 0 2, end 0, feed 0 0, commit 0 0 3, remove 0, task 0 0 0, remove 0, commit 0 0 0, end 0"),
+    ("Reducers wait for the end of the input and for all earlier phases, and need no item.",
+     "add 2, task 1 0 0, next, end 1, task 1 0 0, commit 1 0 0, commit 1 0 1, remove 1, add map 2, feed 2 0, commit 2 0 0, feed 2 1, task 2 1 0, end 2, task 2 1 0, feed 2 0, task 2 1 0, commit 2 0 1, task 2 1 1,"
+     "next 2 1 0, commit 2 1 1, task 2 1 1, task 2 1 2, commit 2 1 0"),
+    ("A later map phase is fed by what is committed; a phase that is not there takes nothing.",
+     "add map map 1, feed 3 0, feed 3 0, commit 3 0 1, feed 3 1, next, next 3 0 0, commit 3 1 0, end 3, commit 3 0 0, feed 3 1, feed 3 1, next 3 1 1, commit 3 1 2, commit 3 1 1, feed 3 2, task 3 2 0, task 3 2 1,"
+     "feed 3 3, task 3 3 0, commit 3 3 0, commit 3 2 0, remove 2, remove 3"),
+    ("By job, by phase and then by place; the first job that waits.",
+     "add map, add map map, add 1, feed 5 1, feed 5 0, end 6, feed 4 0, next 4 0 0, next 4 0 0 5 0 0, next 4 0 0 5 0 0 5 1 0, next 4 0 0 5 0 0 5 1 0 6 0 0, commit 6 0 0, commit 4 0 0, end 4, remove 4, remove 6, remove 5"),
+    ("No phase: it waits once its input has ended.", "add, next, end 7, remove 7"),
+)
+
+
+def chosen(queues, count):
+    """Changes and looks that are chosen, with a seed."""
+    chance = random.Random(2027)
+    for _ in range(3):
+        queues.play(" ".join(["add"] + [str(chance.choice(["map", "map", 1, 2])) for _ in range(3)]))
+    for _ in range(count):
+        ready = [(j, *t) for j in sorted(queues.jobs) for t in queues.jobs[j].ready()]
+        waiting = [j for j in sorted(queues.jobs) if queues.jobs[j].waits()]
+        job = chance.choice([*queues.jobs, *queues.jobs, queues.made])
+        place = f"{job} {chance.randrange(3)} {chance.randrange(4)}"
+        step = chance.choice(["feed"] * 6 + ["done"] * 3 + ["commit", "end", "next", "next", "task", "task", "remove"])
+        if step == "done" and ready:
+            queues.play("commit %d %d %d" % chance.choice(ready))
+        elif step == "next":
+            queues.play(" ".join(["next"] + ["%d %d %d" % it for it in ready[:chance.randrange(5)]]))
+        elif step == "remove" and waiting:
+            queues.play(f"remove {chance.choice(waiting)}")
+            queues.play(" ".join(["add"] + [str(chance.choice(["map", "map", 1, 2])) for _ in range(chance.randrange(1, 4))]))
+        elif step == "end":
+            queues.play(f"end {job}")
+        else:
+            queues.play(f"feed {place[:-2]}" if step == "feed" else f"{'task' if step == 'task' else 'commit'} {place}")
+
+
 def main():
     print("# Job documents (mt_jobdoc), judged by Python's json. Names of assets are those of the login l.")
     for text in BY_HAND:
@@ -262,6 +369,13 @@ def main():
         split_row(n, text)
     for n, text, delimiter, numbers in ((4, b"x 1\ny 2\nx 3", b" ", (1,)), (4, b"x 1\ny 2\nx 3", b" ", (2,)), (3, b"k,1\nk,2\nm,1\nk,3", b",", (1,)), (2, b"a\nb\n", b",", (9,))):
         split_row(n, text, delimiter, numbers)
+    queues = Queues()
+    for title, steps in BY_STEPS:
+        print(f"\n# {title}" + (" The first ready task of all jobs (mt_sched)." if queues.made == 0 else ""))
+        for step in steps.split(","):
+            queues.play(step.strip())
+    print("\n# Chosen steps.")
+    chosen(queues, 160)
 
 
 main()

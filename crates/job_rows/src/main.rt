@@ -1,17 +1,21 @@
 //! `job_rows`: the calls of the crates that jobs stand on, row by row. Its stored run is their table of cases.
 //!
-//! - `documents`: `mt_jobdoc`. `lines`: `mt_split`.
+//! - `documents`: `mt_jobdoc`. `lines`: `mt_split`. `queues`: `mt_sched`.
 #![tactic(auto)]
 
 mod documents;
 mod lines;
+mod queues;
 
 use mt_rows::{Row, Rows, Stop, print_table};
+use queues::Queues;
 use std::alloc::Global;
 use std::io;
 
 #[derive(Drop)]
-struct Jobs;
+struct Jobs {
+    queues: Queues,
+}
 
 impl Rows for Jobs {
     fn answer(
@@ -21,7 +25,10 @@ impl Rows for Jobs {
         row: &Row,
         out: &mut String,
     ) -> Result<(), Stop> {
-        if documents::answer(alloc, line, row, out)? || lines::answer(alloc, row, out)? {
+        if documents::answer(alloc, line, row, out)?
+            || lines::answer(alloc, row, out)?
+            || self.queues.answer(alloc, row, out)?
+        {
             return Ok(());
         }
         Err(Stop::NoSuchRow)
@@ -29,5 +36,8 @@ impl Rows for Jobs {
 }
 
 fn main(rt: HostRuntime) -> io::Result<()> {
-    print_table(&rt, &mut Jobs)
+    let mut jobs = Jobs {
+        queues: Queues::new(rt.alloc()),
+    };
+    print_table(&rt, &mut jobs)
 }

@@ -1,0 +1,15 @@
+pub mod Filters
+pub mod Plain
+pub mod Changes
+pub mod Jobs
+pub mod Orders
+pub mod Phases
+pub mod Skips
+pub mod Writes
+pub mod Walks
+pub mod Entries
+pub mod Sets
+pub mod Starts
+pub mod Looks
+pub mod Above
+pub mod Again

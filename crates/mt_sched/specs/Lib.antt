@@ -1,0 +1,5 @@
+pub mod Plan
+pub mod PlanSteps
+pub mod PlanOfJob
+pub mod Laws
+pub mod Kept
