@@ -1,4 +1,5 @@
-//! `mantad`: the store over files, standard input and standard output. It makes the objects and calls `mt_server`.
+//! `mantad`: the store over files, standard input and standard output, or over the connections to an address. It makes the objects and
+//! calls `mt_server`.
 //!
 //! - `tell`: what is said on standard error. `standard`: its number and those of the other streams.
 #![tactic(auto)]
@@ -6,23 +7,30 @@
 mod standard;
 mod tell;
 
+ghost use Rattle.std.specs.Prelude.{◌≤◌, length, IfSome};
 ghost use Rattle.std.specs.Option.{ForSome};
+ghost use Rattle.mt_base.specs.declared.limits.TheConstants.{LAST_MOMENT};
 ghost use Rattle.mt_disk.specs.CrashModel.{IsAtRest};
 ghost use Rattle.mt_log.specs.LogImage.{Fit};
 
-use mt_adapters::{FileDisk, StdSink, StdSource, SystemClock};
+use mt_adapters::{FileDisk, StdSink, StdSource, SystemClock, TcpDoor};
 use mt_disk::{Disk, MemDisk, Room};
-use mt_edge::{Clock, FixedClock, NoDoor, NoSpawner};
-use mt_server::{Settings, SettingsError, mantad};
+use mt_edge::{Clock, Door, FixedClock, NoDoor};
+use mt_server::mantad;
+use mt_settings::{Mode, Settings, SettingsError};
+use mt_spawn::NoSpawner;
 use standard::Standard;
 use std::alloc::{AllocError, Global};
 use std::env;
 use std::io::ErrorKind;
 use std::process::ExitCode;
-use tell::{tell_status, tell_usage};
+use tell::{tell_door, tell_status, tell_usage};
 
 /// The status where memory is wanted before the store is called.
 const OUT_OF_MEMORY: u8 = 8;
+
+/// The status where the door failed.
+const NO_LINK: u8 = 10;
 
 /// The room of the disk that stands for a store where the words name none. Nothing is written to it.
 const NO_STORE: Room = Room {
@@ -46,21 +54,22 @@ fn words(rt: &HostRuntime, alloc: Global) -> Result<Vec<String>, AllocError> {
     }
 }
 
-// Calls the store over this disk and this clock, and standard input and output.
-fn call<D: Disk, C: Clock>(
+// Calls the store over these ends, and standard input and output.
+fn call<D: Disk, C: Clock, W: Door>(
     rt: HostRuntime,
     words: &[String],
     disk: &mut D,
     clock: &mut C,
+    door: &mut W,
 ) -> Result<u8, AllocError>
     requires rest { IsAtRest D.seen D.may_leave disk.old }
     requires fit { ForSome (D.seen disk.old) Fit }
+    requires door { ForSome (W.given_back door.old) (λ links. length links ≤ W.taken door.old) }
 {
     let alloc = rt.alloc();
     let mut source = StdSource::new(alloc, rt.stdin())?;
     let mut sink = StdSink::over(rt.stdout());
     let mut spawner = NoSpawner::new();
-    let mut door = NoDoor::new();
     Ok(mantad(
         alloc,
         words,
@@ -69,28 +78,73 @@ fn call<D: Disk, C: Clock>(
         disk,
         &mut spawner,
         clock,
-        &mut door,
+        door,
     ))
 }
 
-// Calls the store over the disk and the clock that the words ask for.
+// Calls the store at the one moment that the words ask for, or by the system's time.
+fn call_at<D: Disk, W: Door>(
+    rt: HostRuntime,
+    words: &[String],
+    at: Option<u64>,
+    disk: &mut D,
+    door: &mut W,
+) -> Result<u8, AllocError>
+    requires rest { IsAtRest D.seen D.may_leave disk.old }
+    requires fit { ForSome (D.seen disk.old) Fit }
+    requires door { ForSome (W.given_back door.old) (λ links. length links ≤ W.taken door.old) }
+    requires moment { IfSome at (λ moment. moment ≤ LAST_MOMENT) }
+{
+    match at {
+        Some(moment) => call(rt, words, disk, &mut FixedClock::new(moment), door),
+        None => call(rt, words, disk, &mut SystemClock::new(rt), door),
+    }
+}
+
+// Calls the store over the connections to an address.
+fn serve<D: Disk>(
+    rt: HostRuntime,
+    words: &[String],
+    at: Option<u64>,
+    disk: &mut D,
+    listen: &str,
+) -> Result<u8, AllocError>
+    requires rest { IsAtRest D.seen D.may_leave disk.old }
+    requires fit { ForSome (D.seen disk.old) Fit }
+    requires moment { IfSome at (λ moment. moment ≤ LAST_MOMENT) }
+{
+    let mut door = TcpDoor::new(rt.alloc(), rt, listen)?;
+    let status = call_at(rt, words, at, disk, &mut door)?;
+    if status == NO_LINK {
+        tell_door(&rt, listen, door.failure());
+    }
+    Ok(status)
+}
+
+// Calls the store over the files that the words ask for.
+fn call_on_files(rt: HostRuntime, words: &[String], settings: &Settings) -> Result<u8, AllocError>
+    requires moment { IfSome settings.now.at (λ moment. moment ≤ LAST_MOMENT) }
+{
+    let store = settings.store.as_str();
+    let mut disk = FileDisk::new(rt.alloc(), rt, store)?;
+    let status = match &settings.mode {
+        Mode::Session => call_at(rt, words, settings.at, &mut disk, &mut NoDoor::new())?,
+        Mode::Serve { listen, .. } => serve(rt, words, settings.at, &mut disk, listen.as_str())?,
+    };
+    tell_status(&rt, status, store, disk.failure());
+    Ok(status)
+}
+
+// Calls the store by its words.
 fn run(rt: HostRuntime) -> Result<u8, AllocError> {
     let alloc = rt.alloc();
     let words = words(&rt, alloc)?;
     match Settings::read(alloc, &words) {
-        Ok(settings) => {
-            let mut disk = FileDisk::new(alloc, rt, settings.store.as_str())?;
-            let status = match settings.at {
-                Some(moment) => call(rt, &words, &mut disk, &mut FixedClock::new(moment))?,
-                None => call(rt, &words, &mut disk, &mut SystemClock::new(rt))?,
-            };
-            tell_status(&rt, status, settings.store.as_str(), disk.failure());
-            Ok(status)
-        }
-        Err(SettingsError::Usage) => {
-            tell_usage(&rt, alloc, &words)?;
+        Ok(settings) => call_on_files(rt, &words, &settings),
+        Err(SettingsError::Usage(fault)) => {
+            tell_usage(&rt, &words, fault);
             let mut disk = MemDisk::new(alloc, b"", b"", b"", NO_STORE, &[])?;
-            call(rt, &words, &mut disk, &mut FixedClock::new(0))
+            call_at(rt, &words, None, &mut disk, &mut NoDoor::new())
         }
         Err(SettingsError::Memory) => Err(AllocError),
     }

@@ -1,17 +1,17 @@
 //! What the program says on standard error: the word that is wrong, and the cause of each status above 2.
 use mt_adapters::Failure;
-use mt_settings::{Settings, SettingsError, UsageFault};
-use std::alloc::{AllocError, Global};
+use mt_settings::UsageFault;
+use std::io;
 
 // A line. Nothing is to be done where it can't be written.
 fn say(rt: &HostRuntime, line: &str) {
     let _ = eprintln!(rt; "mantad: {line}");
 }
 
-/// Says why the store ended with a status above 2.
+/// Says why the store ended with a status above 2, but for that of the door.
 pub(crate) fn tell_status(rt: &HostRuntime, status: u8, store: &str, failure: Option<&Failure>) {
     match status {
-        0 | 1 | 2 => {}
+        0 | 1 | 2 | 10 => {}
         3 => say(rt, "standard input can't be read"),
         4 => say(rt, "standard output can't be written to"),
         5 => tell_disk(rt, store, failure),
@@ -42,22 +42,18 @@ fn tell_disk(rt: &HostRuntime, store: &str, failure: Option<&Failure>) {
     }
 }
 
+/// Says why the door gave no link.
+pub(crate) fn tell_door(rt: &HostRuntime, listen: &str, failure: Option<&io::Error>) {
+    let _ = match failure {
+        Some(failure) => eprintln!(rt; "mantad: the address {listen}: {failure}"),
+        None => eprintln!(rt; "mantad: the address {listen}: a call failed"),
+    };
+}
+
 /// Says which word is wrong.
-pub(crate) fn tell_usage(
-    rt: &HostRuntime,
-    alloc: Global,
-    words: &[String],
-) -> Result<(), AllocError> {
-    match Settings::read(alloc, words) {
-        Ok(_) => say(
-            rt,
-            "`serve`, `--slots`, `--work` and `--helper` are not built yet",
-        ),
-        Err(SettingsError::Usage(fault)) => tell_fault(rt, words, fault),
-        Err(SettingsError::Memory) => return Err(AllocError),
-    }
+pub(crate) fn tell_usage(rt: &HostRuntime, words: &[String], fault: UsageFault) {
+    tell_fault(rt, words, fault);
     say(rt, "`./mantad --help` tells the words");
-    Ok(())
 }
 
 // A word behind the command.

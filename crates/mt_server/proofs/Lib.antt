@@ -1,10 +1,14 @@
-mod Completeness
-mod Currents
-mod Histories
-mod Loading
-mod Openings
-mod Runs
-mod Spelled
-mod Steps
-mod Tops
-mod Answering
+pub mod Rounding
+pub mod Connecting
+pub mod Doors
+pub mod Going
+pub mod Overs
+pub mod Turns
+pub mod Opened
+pub mod Serves
+pub mod Sessions
+pub mod Unopened
+pub mod Rest
+pub mod Settling
+pub mod Wanted
+pub mod Tops

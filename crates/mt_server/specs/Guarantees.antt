@@ -1,59 +1,131 @@
--- What the top call promises of a session.
-use Rattle.std.specs.Prelude.{◌≡◌, ◌⊎◌, ◌+◌, ◌≤◌, ℕ, List, length, Option}
+-- What the top call promises of a session, and of many connections.
+use Rattle.std.specs.Prelude.{◌≡◌, ◌+◌, ◌≤◌, ℕ, true, List, [], ◌∷◌, ◌++◌, length, Option, Some, None, IfSome}
+use Rattle.mt_base.specs.Counts.{Rose, NeverFell}
 use Rattle.mt_base.specs.Lists.{IsPrefixOf}
 use Rattle.mt_disk.specs.Files.{Files}
-use Rattle.mt_server.specs.EngineState.{AllHave, HasHistory}
-use Rattle.mt_server.specs.Outcomes.{Outcome}
-use Rattle.mt_server.specs.Sides.{Sides, sides}
-use Rattle.mt_server.specs.Statuses.{Session, code_of}
-use Rattle.mt_server.specs.Store.{History}
-use Rattle.mt_server.specs.Transcript.{AllTold}
-use Rattle.mt_server.specs.declared.connection.ConnectionEnd.TheVariants as ended
+use Rattle.mt_engine.specs.Current.{IsBetween}
+use Rattle.mt_engine.specs.History.{Bytes, HasHistory, History}
+use Rattle.mt_model.specs.State.{State}
+use Rattle.mt_connection.specs.Endings.{Images, Served}
+use Rattle.mt_connection.specs.Outcomes.{ByEnd}
+use Rattle.mt_connection.specs.Sides.{LinkSide, Sides}
+use Rattle.mt_connection.specs.Transcript.{Exchange, Setting, commands_of}
+use Rattle.mt_connection.specs.declared.end.ConnectionEnd.{ConnectionEnd}
+use Rattle.mt_connection.specs.declared.end.ConnectionEnd.TheVariants as ended
+use Rattle.mt_server.specs.Rounds.{AccountSide, DoorSide, EachNamed, IsEnd, NothingFollows, Passed, Round, Rounds, joined, on_link}
+use Rattle.mt_server.specs.Statuses.{NotOpened, most_messages}
+use Rattle.mt_server.specs.declared.status.ServeEnd.TheVariants as serving
 use Rattle.mt_server.specs.declared.status.Status.{Status}
 use Rattle.mt_server.specs.declared.status.Status.TheVariants as status
 
+-- of each of these exchanges over h, what its reply tells of is in the history named
+abbrev pub AllTold : History → History → List Exchange → Type 0
+AllTold named h [] = Unit {0}
+AllTold named h (x ∷ xs) = IsPrefixOf (h ++ commands_of x) named × AllTold named (h ++ commands_of x) xs
+
+-- One connection on the way from one moment to another: its exchanges and its end, the history of which its replies have told,
+-- and that its end is the one to which its bytes lead.
+pub record Connected (s : Setting) (old : Sides) (end : ConnectionEnd) (new : Sides) (named : History) : Type 0 where
+  pub served : Served s most_messages old end new
+  pub named_is : served.named ≡ named
+  pub told : AllTold named old.history served.exchanges
+  pub by_bytes : IfSome old.left (λ bytes. ByEnd most_messages bytes end)
+
 -- an image has a history that begins with this one
-pub record HasFront (named : History) (c : Files) : Type 0 where
+pub record HasFront (base : State Bytes) (c : Files) (named : History) : Type 0 where
   pub history : History
-  pub is : HasHistory c history
+  pub has : HasHistory base history c
   pub front : IsPrefixOf named history
 
 -- an image has the whole history, or all of it but its last command
-pub record HasNearly (whole : History) (c : Files) : Type 0 where
+pub record HasNearly (base : State Bytes) (whole : History) (c : Files) : Type 0 where
   pub history : History
-  pub is : HasHistory c history
+  pub has : HasHistory base history c
   pub front : IsPrefixOf history whole
   pub last : length whole ≤ length history + 1
 
--- after a session each image has the whole history; after a fault of the disk its last command may be missing
-abbrev pub IsDurable : Status → (Files → Type 0) → History → Type 0
-IsDurable (status.Served ended.DiskFault) images whole = (c : Files) → images c → HasNearly whole c
-IsDurable _ images whole = AllHave images whole
+-- At exit each image has the whole history. After a fault of the disk its last command may be missing.
+abbrev pub IsDurable : Status → State Bytes → History → Files → Type 0
+IsDurable (status.Session ended.Disk) base whole c = HasNearly base whole c
+IsDurable (status.Serve serving.Disk) base whole c = HasNearly base whole c
+IsDurable _ base whole c = HasHistory base whole c
 
--- what a reply tells of, once a byte of it was written, is in each image: `named` is the history of which the replies have told
-abbrev pub IsToldDurably : (gives : ℕ → Type 0) (login : List ℕ) (limit : ℕ) (images : Files → Type 0) (old : Sides) (s : Status) (new : Sides) → Session gives login limit images old s new → Type 0
-IsToldDurably gives login limit images old (status.Served end) new run = AllTold run.0.named old.history run.0.exchanges × ((c : Files) → images c → HasFront run.0.named c)
-IsToldDurably gives login limit images old status.Usage new run = Unit {0}
-IsToldDurably gives login limit images old (status.UnreadableLog why) new run = Unit {0}
-IsToldDurably gives login limit images old status.OpeningFault new run = Unit {0}
-IsToldDurably gives login limit images old status.OutOfMemory new run = Unit {0}
+-- at exit the log has so many bytes, unless the disk failed or memory was wanted
+abbrev pub HasSize : Status → ℕ → ℕ → Type 0
+HasSize status.OpeningFault used size = Unit {0}
+HasSize status.OutOfMemory used size = Unit {0}
+HasSize (status.Session ended.Disk) used size = Unit {0}
+HasSize (status.Session ended.Memory) used size = Unit {0}
+HasSize (status.Serve serving.Disk) used size = Unit {0}
+HasSize (status.Serve serving.Memory) used size = Unit {0}
+HasSize _ used size = used ≡ size
 
--- One run of the program over a history: what was left of the source, what the sink got and the counts, before and after.
-pub record HasRun (gives : ℕ → Type 0) (login : List ℕ) (limit : ℕ) (images : Files → Type 0) (before : History) (left : Option (List ℕ)) (f : ℕ) (got : Option (List ℕ)) (w d : ℕ) (result : ℕ) (left' : Option (List ℕ)) (f' : ℕ) (got' : Option (List ℕ)) (w' d' : ℕ) : Type 0 where
-  pub end : Status
-  pub history : History
-  pub number : result ≡ code_of end
-  pub transcript : Session gives login limit images (sides before left f got w d) end (sides history left' f' got' w' d')
-  pub durable_at_exit : IsDurable end images history
-  pub reply_implies_durable : IsToldDurably gives login limit images (sides before left f got w d) end (sides history left' f' got' w' d') transcript
+-- nothing was served: the account stands as it was, and of the source nothing was read
+pub record Unserved (end : Status) (old new : Sides) : Type 0 where
+  pub history : new.history ≡ old.history
+  pub used : new.used ≡ old.used
+  pub left : new.left ≡ old.left
+  pub ends : NotOpened end old.got old.write_faults old.disk_faults new.got new.write_faults new.disk_faults
 
--- a status that the bytes of the source do not decide: the words, the log, a counted fault or want of memory did
-abbrev pub IsBroken : ℕ → Type 0
-IsBroken result = (result ≡ 1) ⊎ (result ≡ 2) ⊎ (result ≡ 3) ⊎ (result ≡ 4) ⊎ (result ≡ 5) ⊎ (result ≡ 8)
+-- A session: its one connection was served, or its store was not opened.
+abbrev pub Session : Setting → Sides → Status → Sides → History → Type 0
+Session s old (status.Session end) new named = Connected s old end new named
+Session s old status.Usage new named = ⊥
+Session s old (status.Serve end) new named = ⊥
+Session s old end new named = Unserved end old new × (named ≡ old.history)
 
--- the status that the bytes ask for
-abbrev pub Asked : Outcome → ℕ → Type 0
-Asked Outcome.Closed result = result ≡ 0
-Asked Outcome.CutShort result = result ≡ 11
-Asked Outcome.Malformed result = result ≡ 12
-Asked Outcome.TooMany result = result ≡ 13
+-- One session over a base and a history that the disk stood for: what was said, what its images at exit have, what a crash at any
+-- moment of it leaves, and that an image has each command of which a reply has told.
+pub record HasRun (s : Setting) (images : Files → Type 0) (at_each_moment : (Files → Type 0) → Type 0) (size : ℕ) (old : Sides) (end : Status) (new : Sides) : Type 0 where
+  -- the history of which replies have told
+  pub named : History
+  pub transcript : Session s old end new named
+  pub durable_at_exit : s.knows ≡ true → (c : Files) → images c → IsDurable end s.base new.history c
+  pub crash_prefix : s.knows ≡ true → at_each_moment (IsBetween s.base old.history new.history)
+  pub reply_implies_durable : s.knows ≡ true → (c : Files) → images c → HasFront s.base c named
+  pub grew : IsPrefixOf old.history new.history
+  pub sized : s.knows ≡ true → HasSize end new.used size
+
+-- one connection on a link of a door
+abbrev pub Visited : {L : Type 0} → (L → LinkSide) → (L → L → Type 0) → Setting → Round L → AccountSide → AccountSide → Type 0
+Visited side stays s x old new =
+    Connected (on_link s (side x.taken)) (joined (side x.taken) old) x.end (joined (side x.given) new) x.named × stays x.taken x.given
+
+-- opening has changed nothing of the account but the count of faults
+pub record IsOpened (old new : AccountSide) : Type 0 where
+  pub history : new.history ≡ old.history
+  pub used : new.used ≡ old.used
+  pub tasks : new.tasks ≡ old.tasks
+  pub counted : NeverFell old.disk_faults new.disk_faults
+
+-- the store was opened, and these rounds were served
+pub record Serving {L : Type 0} (side : L → LinkSide) (stays : L → L → Type 0) (s : Setting) (old : AccountSide) (rounds : List (Round L)) (new : AccountSide) : Type 0 where
+  pub opened : AccountSide
+  pub is_opened : IsOpened old opened
+  pub led : Rounds (Visited side stays s) NothingFollows opened rounds new
+
+-- A serve of so many links, of which these were served.
+abbrev pub Serve : {L : Type 0} → (L → LinkSide) → (L → L → Type 0) → Setting → ℕ → AccountSide → DoorSide L → Status → AccountSide → DoorSide L → List (Round L) → Type 0
+Serve side stays s wanted old door (status.Serve end) new door' rounds = Serving side stays s old rounds new × IsEnd wanted end rounds door door'
+Serve side stays s wanted old door (status.Session end) new door' rounds = ⊥
+Serve side stays s wanted old door status.Usage new door' rounds = ⊥
+Serve side stays s wanted old door end new door' rounds = (rounds ≡ []) × (new.history ≡ old.history) × (new.used ≡ old.used)
+
+-- One serve over a base and a history that the disk stood for: the rounds of its links, each of which was given back; and the rest
+-- as of a session.
+pub record HasServed {L : Type 0} (side : L → LinkSide) (stays : L → L → Type 0) (s : Setting) (wanted : ℕ) (images : Files → Type 0) (at_each_moment : (Files → Type 0) → Type 0) (size : ℕ)
+    (old : AccountSide) (door : DoorSide L) (end : Status) (new : AccountSide) (door' : DoorSide L) : Type 0 where
+  pub rounds : List (Round L)
+  pub transcript : Serve side stays s wanted old door end new door' rounds
+  pub links : Passed door rounds door'
+  pub durable_at_exit : s.knows ≡ true → (c : Files) → images c → IsDurable end s.base new.history c
+  pub crash_prefix : s.knows ≡ true → at_each_moment (IsBetween s.base old.history new.history)
+  pub reply_implies_durable : s.knows ≡ true → (c : Files) → images c → EachNamed (HasFront s.base c) rounds
+  pub grew : IsPrefixOf old.history new.history
+  pub sized : s.knows ≡ true → HasSize end new.used size
+
+-- One turn at the door: it gave no link, or one that was served and given back. What its images have goes by the end.
+abbrev pub Visit : {L : Type 0} → (L → LinkSide) → (L → L → Type 0) → Setting → (images : Files → Type 0) → AccountSide → DoorSide L → Option ConnectionEnd → AccountSide → DoorSide L → Type 0
+Visit side stays s images old door None new door' = (new ≡ old) × Passed door [] door' × Rose door.faults door'.faults
+Visit {L} side stays s images old door (Some end) new door' =
+    (x : Round L) × (x.end ≡ end) × Visited side stays s x old new × Passed door (x ∷ []) door' × (s.knows ≡ true → Images end s.base new.history x.named images)

@@ -1,14 +1,4 @@
-pub mod Answer
-pub mod Answered
-pub mod EngineState
-pub mod Opening
-pub mod Outcomes
-pub mod ReplyText
-pub mod Responded
-pub mod Sides
-pub mod Store
-pub mod Stored
-pub mod Transcript
-pub mod Words
+pub mod Lines
 pub mod Statuses
+pub mod Rounds
 pub mod Guarantees

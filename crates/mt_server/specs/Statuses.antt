@@ -1,29 +1,32 @@
--- How a session ended, and what each status says.
-use Rattle.std.specs.Prelude.{◌≡◌, ◌⊎◌, ℕ, List, [], Option, Some, None, codes}
+-- How a run ended, and what each status says.
+use Rattle.std.specs.Prelude.{◌≡◌, ◌⊎◌, ◌+◌, ◌<◌, ℕ, Bool, true, List, Option, Some, None, Ok}
 use Rattle.mt_base.specs.Counts.{Rose, NeverFell}
-use Rattle.mt_base.specs.Lists.{IsPrefixOf}
-use Rattle.mt_disk.specs.Files.{Files}
-use Rattle.mt_edge.specs.Stream.{GotMore}
-use Rattle.mt_server.specs.EngineState.{AllHave}
-use Rattle.mt_server.specs.Opening.{line_of}
-use Rattle.mt_server.specs.Outcomes.{ByEnd}
-use Rattle.mt_server.specs.Sides.{Sides}
-use Rattle.mt_server.specs.Transcript.{Images, Served}
-use Rattle.mt_server.specs.Words.{default_limit}
-use Rattle.mt_server.specs.declared.connection.ConnectionEnd.TheVariants as ended
-use Rattle.mt_server.specs.declared.settings.Settings.{Settings}
+use Rattle.mt_engine.specs.History.{Bytes}
+use Rattle.mt_engine.specs.declared.opening.OpenEnd.{OpenEnd}
+use Rattle.mt_engine.specs.declared.opening.OpenEnd.TheVariants as opening
+use Rattle.mt_connection.specs.Outcomes.{ByEnd, Outcome}
+use Rattle.mt_connection.specs.declared.end.ConnectionEnd.{ConnectionEnd}
+use Rattle.mt_connection.specs.declared.end.ConnectionEnd.TheVariants as ended
+use Rattle.mt_settings.specs.Words.{settings_of}
+use Rattle.mt_settings.specs.declared.settings.Mode.TheVariants as mode
+use Rattle.mt_settings.specs.declared.settings.Settings.{Settings}
+use Rattle.mt_server.specs.Lines.{SaysLine, line_of}
+use Rattle.mt_server.specs.declared.status.ServeEnd.{ServeEnd}
+use Rattle.mt_server.specs.declared.status.ServeEnd.TheVariants as serving
 use Rattle.mt_server.specs.declared.status.Status.{Status}
-use Rattle.mt_server.specs.declared.opening.OpenEnd.{OpenEnd}
-use Rattle.mt_server.specs.declared.opening.OpenEnd.TheVariants as opening
 use Rattle.mt_server.specs.declared.status.Status.TheVariants as status
+
+-- the words ask for a session, with these settings
+abbrev pub WantsSession : List Bytes → Settings → Type 0
+WantsSession words settings = (settings_of words ≡ Ok settings) × (settings.mode ≡ mode.Session)
+
+-- the words ask for so many connections to be served, with these settings
+abbrev pub WantsServe : List Bytes → Settings → ℕ → Type 0
+WantsServe words settings connections = (listen : Bytes) × (settings_of words ≡ Ok settings) × (settings.mode ≡ mode.Serve connections listen)
 
 -- as many messages as one connection has
 abbrev pub most_messages : ℕ
 most_messages = 16777216
-
--- the line of words that are not of the grammar
-abbrev pub usage_line : List ℕ
-usage_line = codes "usage: mantad COMMAND [OPTIONS]\n"
 
 -- the number of a status
 abbrev pub code_of : Status → ℕ
@@ -31,69 +34,119 @@ code_of status.Usage = 1
 code_of (status.UnreadableLog why) = 2
 code_of status.OpeningFault = 5
 code_of status.OutOfMemory = 8
-code_of (status.Served ended.Ended) = 0
-code_of (status.Served ended.SourceFault) = 3
-code_of (status.Served ended.SinkFault) = 4
-code_of (status.Served ended.DiskFault) = 5
-code_of (status.Served ended.Memory) = 8
-code_of (status.Served ended.Truncated) = 11
-code_of (status.Served ended.Refused) = 12
-code_of (status.Served ended.Many) = 13
+code_of (status.Session ended.Ended) = 0
+code_of (status.Session ended.SourceFault) = 3
+code_of (status.Session ended.SinkFault) = 4
+code_of (status.Session ended.Disk) = 5
+code_of (status.Session ended.Memory) = 8
+code_of (status.Session ended.Truncated) = 11
+code_of (status.Session ended.Refused) = 12
+code_of (status.Session ended.Many) = 13
+code_of (status.Serve serving.Served) = 0
+code_of (status.Serve serving.Disk) = 5
+code_of (status.Serve serving.Memory) = 8
+code_of (status.Serve serving.NoLink) = 10
 
--- a line was written, or a front of it where the sink failed
-pub record SaysLine (line : List ℕ) (got got' : Option (List ℕ)) (w w' : ℕ) : Type 0 where
-  pub written : List ℕ
-  pub front : IsPrefixOf written line
-  pub sink : GotMore got written got'
-  pub whole : (written ≡ line) ⊎ Rose w w'
-  pub counted : NeverFell w w'
+-- how the serving of links ends by a turn at the door: it gave no link, or one whose connection ended so; or it goes on
+abbrev pub over_by : Option ConnectionEnd → Option ServeEnd
+over_by None = Some serving.NoLink
+over_by (Some ended.Disk) = Some serving.Disk
+over_by (Some ended.Memory) = Some serving.Memory
+over_by (Some _) = None
 
--- nothing was served: the history stands as it was
-pub record Unserved (images : Files → Type 0) (old new : Sides) : Type 0 where
-  pub history : new.history ≡ old.history
-  pub left : new.left ≡ old.left
-  pub kept : AllHave images old.history
+-- After a run the disk is ready for another one, unless it failed or memory was wanted; of a disk whose log can't be read, where it
+-- told at entry what it held.
+abbrev pub IsReadyAfter : Status → (told : Bool) → (Ready : Type 0) → Type 0
+IsReadyAfter (status.UnreadableLog why) told Ready = told ≡ true → Ready
+IsReadyAfter status.OpeningFault told Ready = Unit {0}
+IsReadyAfter status.OutOfMemory told Ready = Unit {0}
+IsReadyAfter (status.Session ended.Disk) told Ready = Unit {0}
+IsReadyAfter (status.Session ended.Memory) told Ready = Unit {0}
+IsReadyAfter (status.Serve serving.Disk) told Ready = Unit {0}
+IsReadyAfter (status.Serve serving.Memory) told Ready = Unit {0}
+IsReadyAfter _ told Ready = Ready
 
--- a connection was served
+-- a session may end so
+abbrev pub IsOfSession : Status → Type 0
+IsOfSession status.Usage = ⊥
+IsOfSession (status.Serve end) = ⊥
+IsOfSession _ = Unit {0}
+
+-- a serve may end so
+abbrev pub IsOfServe : Status → Type 0
+IsOfServe status.Usage = ⊥
+IsOfServe (status.Session end) = ⊥
+IsOfServe _ = Unit {0}
+
+-- the store was opened
 abbrev pub IsBegun : Status → Type 0
-IsBegun (status.Served end) = Unit {0}
+IsBegun (status.Session end) = Unit {0}
+IsBegun (status.Serve end) = Unit {0}
 IsBegun _ = ⊥
 
--- the login that the words give
-abbrev pub login_of : Option Settings → List ℕ
-login_of None = []
-login_of (Some settings) = settings.login
+-- it was not
+abbrev pub IsUnopened : Status → Type 0
+IsUnopened (status.Session end) = ⊥
+IsUnopened (status.Serve end) = ⊥
+IsUnopened _ = Unit {0}
 
--- the bytes that the words let the log have
-abbrev pub limit_of : Option Settings → ℕ
-limit_of None = default_limit
-limit_of (Some settings) = settings.log_limit
+-- it was not, and no line says so
+abbrev pub IsSilent : Status → Type 0
+IsSilent status.OpeningFault = Unit {0}
+IsSilent status.OutOfMemory = Unit {0}
+IsSilent _ = ⊥
 
--- a session of a login, under a limit of the log, over a history: it was not begun, or one connection was served
-abbrev pub Session : (gives : ℕ → Type 0) (login : List ℕ) (limit : ℕ) (images : Files → Type 0) (old : Sides) → Status → Sides → Type 0
-Session gives login limit images old status.Usage new = Unserved images old new × SaysLine usage_line old.got new.got old.write_faults new.write_faults
-Session gives login limit images old (status.UnreadableLog why) new = Unserved images old new × SaysLine (line_of why) old.got new.got old.write_faults new.write_faults
-Session gives login limit images old status.OpeningFault new = Unserved images old new × (new.got ≡ old.got) × Rose old.disk_faults new.disk_faults
-Session gives login limit images old status.OutOfMemory new = Unserved images old new × (new.got ≡ old.got)
-Session gives login limit images old (status.Served end) new = (s : Served gives login limit most_messages old end new) × Images end images new.history s.named
+-- a store was not opened: its line was said, or the disk failed, or memory was wanted
+abbrev pub NotOpened : Status → (got : Option Bytes) (write_faults disk_faults : ℕ) (got' : Option Bytes) (write_faults' disk_faults' : ℕ) → Type 0
+NotOpened (status.UnreadableLog why) got w d got' w' d' = SaysLine (line_of why) got got' w w'
+NotOpened status.OpeningFault got w d got' w' d' = (got' ≡ got) × (w' ≡ w) × Rose d d'
+NotOpened status.OutOfMemory got w d got' w' d' = (got' ≡ got) × (w' ≡ w)
+NotOpened _ got w d got' w' d' = ⊥
 
--- the status of a store that was not opened: its line was said, or memory was wanted for it
-abbrev pub NotOpened : OpenEnd → (got : Option (List ℕ)) (w : ℕ) → Status → (got' : Option (List ℕ)) (w' : ℕ) → Type 0
-NotOpened (opening.Unreadable why) got w (status.UnreadableLog said) got' w' = (said ≡ why) × SaysLine (line_of why) got got' w w'
-NotOpened (opening.Unreadable why) got w status.OutOfMemory got' w' = (got' ≡ got) × (w' ≡ w)
-NotOpened opening.Disk got w status.OpeningFault got' w' = (got' ≡ got) × (w' ≡ w)
-NotOpened opening.Memory got w status.OutOfMemory got' w' = (got' ≡ got) × (w' ≡ w)
-NotOpened end got w s got' w' = ⊥
+-- the status for why a store was not opened: its line was said, or memory was wanted for it
+abbrev pub Tells : OpenEnd → (got : Option Bytes) (write_faults : ℕ) → Status → (got' : Option Bytes) (write_faults' : ℕ) → Type 0
+Tells (opening.Unreadable why) got w (status.UnreadableLog said) got' w' = (said ≡ why) × SaysLine (line_of why) got got' w w'
+Tells (opening.Unreadable why) got w status.OutOfMemory got' w' = (got' ≡ got) × (w' ≡ w)
+Tells opening.Disk got w status.OpeningFault got' w' = (got' ≡ got) × (w' ≡ w)
+Tells opening.Memory got w status.OutOfMemory got' w' = (got' ≡ got) × (w' ≡ w)
+Tells end got w s got' w' = ⊥
 
 -- the bytes say this status, where it is one that the bytes decide
-abbrev pub ByBytes : List ℕ → Status → Type 0
-ByBytes bytes (status.Served end) = ByEnd most_messages bytes end
+abbrev pub ByBytes : Bytes → Status → Type 0
+ByBytes bytes (status.Session end) = ByEnd most_messages bytes end
 ByBytes bytes _ = Unit {0}
 
--- a fault comes only where its count rose
-abbrev pub ByCounts : (r w d : ℕ) → Status → (r' w' d' : ℕ) → Type 0
-ByCounts r w d (status.Served ended.SourceFault) r' w' d' = Rose r r'
-ByCounts r w d (status.Served ended.SinkFault) r' w' d' = Rose w w'
-ByCounts r w d (status.Served ended.DiskFault) r' w' d' = Rose d d'
-ByCounts r w d status.OpeningFault r' w' d' = Rose d d'
-ByCounts r w d _ r' w' d' = Unit {0}
+-- a fault of the disk comes only where its count rose
+abbrev pub ByDisk : Status → (disk_faults disk_faults' : ℕ) → Type 0
+ByDisk (status.Session ended.Disk) d d' = Rose d d'
+ByDisk (status.Serve serving.Disk) d d' = Rose d d'
+ByDisk status.OpeningFault d d' = Rose d d'
+ByDisk _ d d' = Unit {0}
+
+-- what a turn at the door counts: a fault, or one link more
+abbrev pub TurnCounts : Option ConnectionEnd → (taken faults taken' faults' : ℕ) → Type 0
+TurnCounts None t f t' f' = (t' ≡ t) × Rose f f'
+TurnCounts (Some end) t f t' f' = (t' ≡ t + 1) × NeverFell f f'
+
+-- all links that were asked for were taken where that is the status, and fewer, with a counted fault of the door, on the status of none
+abbrev pub ByDoor : Status → (wanted taken faults taken' faults' : ℕ) → Type 0
+ByDoor (status.Serve serving.Served) wanted t f t' f' = t' ≡ t + wanted
+ByDoor (status.Serve serving.NoLink) wanted t f t' f' = (t' < t + wanted) × Rose f f'
+ByDoor _ wanted t f t' f' = Unit {0}
+
+-- a fault of the source or the sink comes only in a session, and only where its count rose
+abbrev pub ByLink : Status → (read_faults write_faults read_faults' write_faults' : ℕ) → Type 0
+ByLink (status.Session ended.SourceFault) r w r' w' = Rose r r'
+ByLink (status.Session ended.SinkFault) r w r' w' = Rose w w'
+ByLink _ r w r' w' = Unit {0}
+
+-- a status that the bytes of the source do not decide: the words, the log, a counted fault or want of memory did
+abbrev pub IsBroken : ℕ → Type 0
+IsBroken result = (result ≡ 1) ⊎ (result ≡ 2) ⊎ (result ≡ 3) ⊎ (result ≡ 4) ⊎ (result ≡ 5) ⊎ (result ≡ 8)
+
+-- the status that the bytes ask for
+abbrev pub Asked : Outcome → ℕ → Type 0
+Asked Outcome.Closed result = result ≡ 0
+Asked Outcome.CutShort result = result ≡ 11
+Asked Outcome.Malformed result = result ≡ 12
+Asked Outcome.TooMany result = result ≡ 13

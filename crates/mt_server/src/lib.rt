@@ -1,33 +1,23 @@
-//! One session over an account: the words are read, the log is opened, and messages are answered until they end.
+//! The top call: the words are read, the store is opened, and one session or many connections are served.
 //!
-//! - `top`: `mantad`, the call that the program makes, with all that is promised of a session.
-//! - `settings`, `session`, `status`: the words, the opening and the statuses.
-//! - `connection`: messages in turn; `respond`, `answer`: one message, its command and its reply.
-//! - `route`: what a message asks for. `reply`: replies and their bytes.
-//! - `engine`, `types`, `object`, `put`: the objects and the log that they are made from.
-//! - `load`, `decode`, `opening`: a store that is there is read, or why it can't be.
+//! - `top`: `mantad`, the call that the program makes, with all that is promised of it; `run`: the command that the words ask for.
+//! - `session`: one connection over a source and a sink; `serve`: the links of a door, one after another.
+//! - `opening`: the store, or why it can't be opened; `line`: the line that says so.
+//! - `laws`: rounds go on.
+//! - `status`: how a run ended, and its number.
 //!
-//! In `specs/` begin with `Guarantees`, then `Statuses` and `Transcript`; `Answer` says what a message is answered,
-//! `Store` what a history of puts means, `Opening` which logs are refused.
+//! In `specs/` begin with `Guarantees`; `Statuses` says what each status means, `Rounds` what many connections are, `Lines` what is
+//! written where nothing is served.
 #![tactic(auto)]
 
-mod accepted;
-mod answer;
-mod connection;
-mod decode;
-mod engine;
-mod load;
-mod object;
+pub mod laws;
+mod line;
 mod opening;
-mod put;
-mod reply;
-mod respond;
-mod route;
+mod run;
+mod serve;
 mod session;
-mod settings;
 mod status;
 mod top;
-mod types;
 
-pub use settings::{Settings, SettingsError};
+pub use status::{ServeEnd, Status};
 pub use top::mantad;

@@ -1,40 +1,34 @@
-//! A session: the words are read, the log is opened, and one connection is served over the source and the sink.
-ghost use Rattle.std.specs.Prelude.{◌≡◌, ◌≢◌, ◌⊎◌, None, false, is_some, IfSome, map, string_bytes};
+//! One session: one connection over a source and a sink that lie apart.
+ghost use Rattle.std.specs.Prelude.{◌≡◌, ◌≢◌, ℕ, false, is_some, IfSome};
 ghost use Rattle.std.specs.Option.{ForSome};
-ghost use Rattle.mt_base.specs.Counts.{Rose};
-ghost use Rattle.mt_disk.specs.CrashModel.{IsAtRest};
-ghost use Rattle.mt_log.specs.LogImage.{Fit};
+ghost use Rattle.mt_disk.specs.CrashModel.{IsAtRest, LeavesOnly};
+ghost use Rattle.mt_log.specs.LogImage.{Fit, SameLog};
 ghost use Rattle.mt_log.specs.LogState.{Stands};
-ghost use Rattle.mt_server.specs.EngineState.{IsCurrent, OverHistory, told_images};
-ghost use Rattle.mt_server.specs.Opening.{IsReadable, IsRefused, KeepsLogs, line_of};
-ghost use Rattle.mt_server.specs.Sides.{sides};
-ghost use Rattle.mt_server.specs.Statuses.{ByBytes, ByCounts, IsBegun, NotOpened, SaysLine, Session, limit_of, login_of, most_messages, usage_line};
-ghost use Rattle.mt_server.specs.Store.{History};
-ghost use Rattle.mt_server.specs.Transcript.{WasServed};
-ghost use Rattle.mt_server.specs.Words.{settings_of};
-ghost use Rattle.mt_server.specs.declared.opening.Unreadable.{Unreadable};
+ghost use Rattle.mt_model.specs.State.{State};
+ghost use Rattle.mt_engine.specs.Current.{Serves};
+ghost use Rattle.mt_engine.specs.History.{Bytes, HasHistory, History};
+ghost use Rattle.mt_engine.specs.Opening.{IsReadable, IsRefused, KeepsLogs};
+ghost use Rattle.mt_engine.specs.declared.opening.Unreadable.{Unreadable};
+ghost use Rattle.mt_connection.specs.Sides.{sides};
+ghost use Rattle.mt_connection.specs.Transcript.{Over, setting};
+ghost use Rattle.mt_server.specs.Guarantees.{HasRun};
+ghost use Rattle.mt_server.specs.Lines.{SaysLine, line_of};
+ghost use Rattle.mt_server.specs.Rounds.{account_side, joined, link_side, size_of};
+ghost use Rattle.mt_server.specs.Statuses.{ByBytes, ByDisk, ByLink, IsBegun, IsOfSession, IsReadyAfter, IsSilent, IsUnopened};
 
-use crate::connection::{ConnectionEnd, serve_connection};
-use crate::opening::{OpenEnd, line};
-use crate::settings::{Settings, SettingsError};
+use crate::opening::open_store;
 use crate::status::Status;
-use crate::types::Engine;
+use mt_connection::{ConnectionEnd, serve_connection};
 use mt_disk::Disk;
-use mt_edge::{Clock, Joined, Sink, Source, write_all};
+use mt_edge::{Clock, Joined, Sink, Source};
+use mt_engine::Engine;
 use std::alloc::Global;
 
 /// As many messages as one connection has.
-const MOST_MESSAGES: u64 = 16_777_216;
-
-// Writes a line, or a front of it before a counted fault.
-fn say<K: Sink>(sink: &mut K, line: &[u8])
-    ensures said { SaysLine line.now (K.got sink.old) (K.got sink.new) (K.write_faults sink.old) (K.write_faults sink.new) }
-{
-    let _ = write_all(sink, line);
-}
+pub(crate) const MOST_MESSAGES: u64 = 16_777_216;
 
 // Serves one connection over a source and a sink.
-fn serve<S: Source, K: Sink, D: Disk, C: Clock>(
+fn serve_joined<S: Source, K: Sink, D: Disk, C: Clock>(
     alloc: Global,
     login: &str,
     engine: &mut Engine,
@@ -45,34 +39,27 @@ fn serve<S: Source, K: Sink, D: Disk, C: Clock>(
 ) -> ConnectionEnd
     requires stands { Stands D.seen D.may_leave disk.old engine.old.log }
     requires is_open { engine.old.log.closed ≡ false }
-    ensures { WasServed (C.gives (C.rule clock.old)) login.now engine.old.log.limit most_messages
-        (λ tells h. IsCurrent tells (D.seen disk.old) engine.old h) (λ tells. told_images tells (D.may_leave disk.new))
-        (S.left source.old) (S.read_faults source.old) (K.got sink.old) (K.write_faults sink.old) (D.faults disk.old) result
-        (S.left source.new) (S.read_faults source.new) (K.got sink.new) (K.write_faults sink.new) (D.faults disk.new) }
+    requires version { engine.old.log.is_old ≡ false }
+    requires serves { Serves (D.seen disk.old) engine.old }
+    ensures run { (base : State Bytes) (h : History) → Over (D.seen disk.old) engine.old base h → (k : History) ×
+        HasRun (setting (is_some (S.left source.old)) (is_some (D.seen disk.old)) (C.gives (C.rule clock.old)) login.now engine.old.log.limit base)
+        (D.may_leave disk.new) (LeavesOnly D.moment D.left_since disk.old disk.new) (size_of (D.seen disk.new))
+        (sides (link_side (S.left source.old) (K.got sink.old) (S.read_faults source.old) (K.write_faults sink.old)) h (D.seen disk.old) (D.faults disk.old) engine.old) (Status.Session result)
+        (sides (link_side (S.left source.new) (K.got sink.new) (S.read_faults source.new) (K.write_faults sink.new)) k (D.seen disk.new) (D.faults disk.new) engine.new) }
+    ensures by_bytes { IfSome (S.left source.old) (λ bytes. ByBytes bytes (Status.Session result)) }
+    ensures by_link { ByLink (Status.Session result) (S.read_faults source.old) (K.write_faults sink.old) (S.read_faults source.new) (K.write_faults sink.new) }
+    ensures by_disk { ByDisk (Status.Session result) (D.faults disk.old) (D.faults disk.new) }
+    ensures rest { result ≢ ConnectionEnd.Disk → result ≢ ConnectionEnd.Memory → IsAtRest D.seen D.may_leave disk.new × ForSome (D.seen disk.new) Fit }
+    ensures source_stays { S.source_stays source.old source.new }
+    ensures sink_stays { K.sink_stays sink.old sink.new }
+    ensures rule { C.rule clock.new ≡ C.rule clock.old }
 {
     let mut link = Joined { source, sink };
     serve_connection(alloc, login, engine, disk, clock, &mut link, MOST_MESSAGES)
 }
 
-// Says why a store was not opened, and gives the status for it.
-fn not_opened<K: Sink>(alloc: Global, sink: &mut K, end: OpenEnd) -> Status
-    ensures { NotOpened end (K.got sink.old) (K.write_faults sink.old) result (K.got sink.new) (K.write_faults sink.new) }
-{
-    match end {
-        OpenEnd::Unreadable(why) => match line(alloc, &why) {
-            Ok(text) => {
-                say(sink, text.as_slice());
-                Status::UnreadableLog(why)
-            }
-            Err(_) => Status::OutOfMemory,
-        },
-        OpenEnd::Disk => Status::OpeningFault,
-        OpenEnd::Memory => Status::OutOfMemory,
-    }
-}
-
-// Opens the log and serves one connection.
-fn session<S: Source, K: Sink, D: Disk, C: Clock>(
+// Opens the store and serves one connection.
+pub(crate) fn session<S: Source, K: Sink, D: Disk, C: Clock>(
     alloc: Global,
     login: &str,
     limit: u64,
@@ -83,17 +70,27 @@ fn session<S: Source, K: Sink, D: Disk, C: Clock>(
 ) -> Status
     requires rest { IsAtRest D.seen D.may_leave disk.old }
     requires fit { ForSome (D.seen disk.old) Fit }
-    ensures session { OverHistory (D.seen disk.old) (λ h. (h' : History) × Session (C.gives (C.rule clock.old)) login.now limit (told_images (is_some (D.seen disk.old)) (D.may_leave disk.new))
-        (sides h (S.left source.old) (S.read_faults source.old) (K.got sink.old) (K.write_faults sink.old) (D.faults disk.old)) result
-        (sides h' (S.left source.new) (S.read_faults source.new) (K.got sink.new) (K.write_faults sink.new) (D.faults disk.new))) }
+    ensures run { (base : State Bytes) (h : History) → ForSome (D.seen disk.old) (HasHistory base h) → (k : History) × (used : ℕ) ×
+        HasRun (setting (is_some (S.left source.old)) (is_some (D.seen disk.old)) (C.gives (C.rule clock.old)) login.now limit base)
+        (D.may_leave disk.new) (LeavesOnly D.moment D.left_since disk.old disk.new) (size_of (D.seen disk.new))
+        (joined (link_side (S.left source.old) (K.got sink.old) (S.read_faults source.old) (K.write_faults sink.old)) (account_side h (size_of (D.seen disk.old)) (D.faults disk.old))) result
+        (joined (link_side (S.left source.new) (K.got sink.new) (S.read_faults source.new) (K.write_faults sink.new)) (account_side k used (D.faults disk.new))) }
+    ensures of_session { IsOfSession result }
     ensures begun { IsBegun result → ForSome (D.seen disk.old) IsReadable }
-    ensures unreadable { (why : Unreadable) → result ≡ Status.UnreadableLog why → (source.new ≡ source.old) × SaysLine (line_of why) (K.got sink.old) (K.got sink.new) (K.write_faults sink.old) (K.write_faults sink.new)
+    ensures unopened { IsUnopened result → (source.new ≡ source.old) × ForSome (D.seen disk.old) (λ files. LeavesOnly D.moment D.left_since disk.old disk.new (SameLog files)) }
+    ensures silent { IsSilent result → sink.new ≡ sink.old }
+    ensures refused { (why : Unreadable) → result ≡ Status.UnreadableLog why → SaysLine (line_of why) (K.got sink.old) (K.got sink.new) (K.write_faults sink.old) (K.write_faults sink.new)
         × ForSome (D.seen disk.old) (λ files. IsRefused files why × KeepsLogs D.seen D.may_leave disk.new files) }
-    ensures fault { result ≡ Status.OpeningFault → Rose (D.faults disk.old) (D.faults disk.new) }
-    ensures no_usage { result ≢ Status.Usage }
+    ensures by_bytes { IfSome (S.left source.old) (λ bytes. ByBytes bytes result) }
+    ensures by_link { ByLink result (S.read_faults source.old) (K.write_faults sink.old) (S.read_faults source.new) (K.write_faults sink.new) }
+    ensures by_disk { ByDisk result (D.faults disk.old) (D.faults disk.new) }
+    ensures rest { IsReadyAfter result (is_some (D.seen disk.old)) (IsAtRest D.seen D.may_leave disk.new × ForSome (D.seen disk.new) Fit) }
+    ensures source_stays { S.source_stays source.old source.new }
+    ensures sink_stays { K.sink_stays sink.old sink.new }
+    ensures rule { C.rule clock.new ≡ C.rule clock.old }
 {
-    match Engine::open(alloc, disk, limit) {
-        Ok(mut engine) => Status::Served(serve(
+    match open_store(alloc, limit, sink, disk) {
+        Ok(mut engine) => Status::Session(serve_joined(
             alloc,
             login,
             &mut engine,
@@ -102,72 +99,6 @@ fn session<S: Source, K: Sink, D: Disk, C: Clock>(
             disk,
             clock,
         )),
-        Err(end) => not_opened(alloc, sink, end),
+        Err(status) => status,
     }
-}
-
-// Reads the words, and runs a session.
-fn run<S: Source, K: Sink, D: Disk, C: Clock>(
-    alloc: Global,
-    words: &[String],
-    source: &mut S,
-    sink: &mut K,
-    disk: &mut D,
-    clock: &mut C,
-) -> Status
-    requires rest { IsAtRest D.seen D.may_leave disk.old }
-    requires fit { ForSome (D.seen disk.old) Fit }
-    ensures session { OverHistory (D.seen disk.old) (λ h. (h' : History) × Session (C.gives (C.rule clock.old)) (login_of (settings_of (map string_bytes words.now))) (limit_of (settings_of (map string_bytes words.now))) (told_images (is_some (D.seen disk.old)) (D.may_leave disk.new))
-        (sides h (S.left source.old) (S.read_faults source.old) (K.got sink.old) (K.write_faults sink.old) (D.faults disk.old)) result
-        (sides h' (S.left source.new) (S.read_faults source.new) (K.got sink.new) (K.write_faults sink.new) (D.faults disk.new))) }
-    ensures begun { IsBegun result → ForSome (D.seen disk.old) IsReadable }
-    ensures usage { result ≡ Status.Usage → (settings_of (map string_bytes words.now) ≡ None) × (source.new ≡ source.old) × (disk.new ≡ disk.old)
-        × SaysLine usage_line (K.got sink.old) (K.got sink.new) (K.write_faults sink.old) (K.write_faults sink.new) }
-    ensures unreadable { (why : Unreadable) → result ≡ Status.UnreadableLog why → (source.new ≡ source.old) × SaysLine (line_of why) (K.got sink.old) (K.got sink.new) (K.write_faults sink.old) (K.write_faults sink.new)
-        × ForSome (D.seen disk.old) (λ files. IsRefused files why × KeepsLogs D.seen D.may_leave disk.new files) }
-    ensures fault { result ≡ Status.OpeningFault → Rose (D.faults disk.old) (D.faults disk.new) }
-    ensures words { settings_of (map string_bytes words.now) ≡ None → (result ≡ Status.Usage) ⊎ (result ≡ Status.OutOfMemory) }
-{
-    match Settings::read(alloc, words) {
-        Ok(settings) => session(
-            alloc,
-            settings.login.as_str(),
-            settings.log_limit,
-            source,
-            sink,
-            disk,
-            clock,
-        ),
-        Err(SettingsError::Usage) => {
-            say(sink, b"usage: mantad COMMAND [OPTIONS]\n");
-            Status::Usage
-        }
-        Err(SettingsError::Memory) => Status::OutOfMemory,
-    }
-}
-
-// A session, and what its status says.
-pub(crate) fn conclude<S: Source, K: Sink, D: Disk, C: Clock>(
-    alloc: Global,
-    words: &[String],
-    source: &mut S,
-    sink: &mut K,
-    disk: &mut D,
-    clock: &mut C,
-) -> Status
-    requires rest { IsAtRest D.seen D.may_leave disk.old }
-    requires fit { ForSome (D.seen disk.old) Fit }
-    ensures session { OverHistory (D.seen disk.old) (λ h. (h' : History) × Session (C.gives (C.rule clock.old)) (login_of (settings_of (map string_bytes words.now))) (limit_of (settings_of (map string_bytes words.now))) (told_images (is_some (D.seen disk.old)) (D.may_leave disk.new))
-        (sides h (S.left source.old) (S.read_faults source.old) (K.got sink.old) (K.write_faults sink.old) (D.faults disk.old)) result
-        (sides h' (S.left source.new) (S.read_faults source.new) (K.got sink.new) (K.write_faults sink.new) (D.faults disk.new))) }
-    ensures begun { IsBegun result → ForSome (D.seen disk.old) IsReadable }
-    ensures usage { result ≡ Status.Usage → (settings_of (map string_bytes words.now) ≡ None) × (source.new ≡ source.old) × (disk.new ≡ disk.old)
-        × SaysLine usage_line (K.got sink.old) (K.got sink.new) (K.write_faults sink.old) (K.write_faults sink.new) }
-    ensures unreadable { (why : Unreadable) → result ≡ Status.UnreadableLog why → (source.new ≡ source.old) × SaysLine (line_of why) (K.got sink.old) (K.got sink.new) (K.write_faults sink.old) (K.write_faults sink.new)
-        × ForSome (D.seen disk.old) (λ files. IsRefused files why × KeepsLogs D.seen D.may_leave disk.new files) }
-    ensures words { settings_of (map string_bytes words.now) ≡ None → (result ≡ Status.Usage) ⊎ (result ≡ Status.OutOfMemory) }
-    ensures by_bytes { IfSome (S.left source.old) (λ bytes. ByBytes bytes result) }
-    ensures by_counts { ByCounts (S.read_faults source.old) (K.write_faults sink.old) (D.faults disk.old) result (S.read_faults source.new) (K.write_faults sink.new) (D.faults disk.new) }
-{
-    run(alloc, words, source, sink, disk, clock)
 }

@@ -1,11 +1,24 @@
-//! How a session ended, and the number that the program ends with.
+//! How a run ended, and the number that the program ends with.
 ghost use Rattle.std.specs.Prelude.{◌≡◌};
 ghost use Rattle.mt_server.specs.Statuses.{code_of};
 
-use crate::connection::ConnectionEnd;
-use crate::opening::Unreadable;
+use mt_connection::ConnectionEnd;
+use mt_engine::Unreadable;
 
-/// How a session ended.
+/// How the serving of links ended.
+#[derive(Clone, Copy, Debug, PartialEq, Eq)]
+pub enum ServeEnd {
+    /// 0: as many links as were asked for were taken, served and given back.
+    Served,
+    /// 10: the door failed before that, and counted it.
+    NoLink,
+    /// 5: the disk failed, and counted it. The link was given back.
+    Disk,
+    /// 8: memory was wanted. The link was given back.
+    Memory,
+}
+
+/// How a run ended.
 #[derive(Clone, Copy, Debug, PartialEq, Eq)]
 pub enum Status {
     /// 1: the words are not of the grammar.
@@ -16,8 +29,10 @@ pub enum Status {
     OpeningFault,
     /// 8: memory was wanted before a message was read.
     OutOfMemory,
-    /// The connection was served, and ended so: 0, 3, 4, 5, 8, 11, 12 or 13.
-    Served(ConnectionEnd),
+    /// The one connection of a session ended so: 0, 3, 4, 5, 8, 11, 12 or 13.
+    Session(ConnectionEnd),
+    /// Links were served: 0, 5, 8 or 10.
+    Serve(ServeEnd),
 }
 
 impl Status {
@@ -30,14 +45,18 @@ impl Status {
             Status::UnreadableLog(_) => 2,
             Status::OpeningFault => 5,
             Status::OutOfMemory => 8,
-            Status::Served(ConnectionEnd::Ended) => 0,
-            Status::Served(ConnectionEnd::SourceFault) => 3,
-            Status::Served(ConnectionEnd::SinkFault) => 4,
-            Status::Served(ConnectionEnd::DiskFault) => 5,
-            Status::Served(ConnectionEnd::Memory) => 8,
-            Status::Served(ConnectionEnd::Truncated) => 11,
-            Status::Served(ConnectionEnd::Refused) => 12,
-            Status::Served(ConnectionEnd::Many) => 13,
+            Status::Session(ConnectionEnd::Ended) => 0,
+            Status::Session(ConnectionEnd::SourceFault) => 3,
+            Status::Session(ConnectionEnd::SinkFault) => 4,
+            Status::Session(ConnectionEnd::Disk) => 5,
+            Status::Session(ConnectionEnd::Memory) => 8,
+            Status::Session(ConnectionEnd::Truncated) => 11,
+            Status::Session(ConnectionEnd::Refused) => 12,
+            Status::Session(ConnectionEnd::Many) => 13,
+            Status::Serve(ServeEnd::Served) => 0,
+            Status::Serve(ServeEnd::Disk) => 5,
+            Status::Serve(ServeEnd::Memory) => 8,
+            Status::Serve(ServeEnd::NoLink) => 10,
         }
     }
 }

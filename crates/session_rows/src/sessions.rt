@@ -1,166 +1,151 @@
-//! Sessions over one disk, each with requests, faults and a crash of its own.
+//! Sessions and serves over one disk, each with requests, faults and a crash of its own.
+use crate::links::Links;
 use crate::picks::picks_of;
-use mt_disk::{CrashError, FileNo, MemDisk, Pick, Room};
-use mt_edge::{FixedClock, MemSink, MemSource, NoDoor, NoSpawner};
-use mt_rows::{Row, Rows, Stop, put_line, put_lines, unescaped};
-use mt_server::mantad;
-use std::alloc::{AllocError, Global};
-
-/// The room of a session's disk.
-const ROOM: Room = Room {
-    file: 65_536,
-    calls: 1_024,
-    written: 65_536,
-};
-
-/// The room of a session's sink, in bytes.
-const SINK: usize = 65_536;
-
-/// The bytes of a log without a command.
-const LEAST_LOG: usize = 9;
+use crate::stops::put_stops;
+use crate::store::{Ends, Files, Left, run_over};
+use mt_disk::{CrashError, MemDisk, Pick};
+use mt_rows::{Row, Rows, Stop, unescaped};
+use std::alloc::Global;
 
 /// What the next session begins with, and how many calls of the disk the last one made. What fails, and what a crash
 /// leaves, is of that session alone.
 #[derive(Drop)]
 pub struct Sessions {
-    head: Vec<u8>,
-    one: Vec<u8>,
-    two: Vec<u8>,
-    requests: Vec<u8>,
+    files: Files,
+    ends: Ends,
+    links: Links,
     disk_fails: Vec<u64>,
-    reads_fail: Vec<u64>,
-    writes_fail: Vec<u64>,
     picks: Vec<Pick>,
     calls: u64,
-}
-
-// What a session left.
-#[derive(Drop)]
-struct Left {
-    status: u8,
-    sink: MemSink,
-    disk: MemDisk,
 }
 
 impl Sessions {
     /// A new store, and no requests.
     pub fn new(alloc: Global) -> Sessions {
         Sessions {
-            head: Vec::new(alloc),
-            one: Vec::new(alloc),
-            two: Vec::new(alloc),
-            requests: Vec::new(alloc),
+            files: Files::new(alloc),
+            ends: Ends::new(alloc),
+            links: Links::new(alloc),
             disk_fails: Vec::new(alloc),
-            reads_fail: Vec::new(alloc),
-            writes_fail: Vec::new(alloc),
             picks: Vec::new(alloc),
             calls: 0,
         }
     }
 
-    // A new store; the requests stay.
-    fn clear(&mut self) {
-        self.head.clear();
-        self.one.clear();
-        self.two.clear();
-    }
-
-    fn set_store(&mut self, alloc: Global, row: &Row) -> Result<(), Stop> {
-        self.head = Vec::from_slice(alloc, row.bytes(1)?)?;
-        self.one = Vec::from_slice(alloc, row.bytes(2)?)?;
-        self.two = Vec::from_slice(alloc, row.bytes(3)?)?;
+    fn set_failing(&mut self, alloc: Global, row: &Row) -> Result<(), Stop> {
+        let numbers = row.numbers(alloc, 2)?;
+        match row.text(1)? {
+            "disk" => self.disk_fails = numbers,
+            "reads" => self.ends.reads_fail = numbers,
+            "writes" => self.ends.writes_fail = numbers,
+            "door" => self.links.calls_fail = numbers,
+            _ => return Err(Stop::NoSuchRow),
+        }
         Ok(())
     }
 
-    fn set_failing(&mut self, alloc: Global, row: &Row) -> Result<(), Stop> {
-        let numbers = row.numbers(alloc, 2)?;
-        match row.bytes(1)? {
-            b"disk" => self.disk_fails = numbers,
-            b"reads" => self.reads_fail = numbers,
-            b"writes" => self.writes_fail = numbers,
-            _ => return Err(Stop::NoSuchRow),
-        }
+    fn read_files(&mut self, alloc: Global, row: &Row) -> Result<(), Stop> {
+        self.files = Files::read(alloc, row)?;
+        Ok(())
+    }
+
+    fn forget_files(&mut self, alloc: Global) -> Result<(), Stop> {
+        self.files = Files::new(alloc);
+        Ok(())
+    }
+
+    fn forget_requests(&mut self) -> Result<(), Stop> {
+        self.ends.requests.clear();
+        Ok(())
+    }
+
+    fn set_picks(&mut self, alloc: Global, row: &Row) -> Result<(), Stop> {
+        self.picks = picks_of(alloc, row)?;
+        Ok(())
+    }
+
+    fn put_calls(&self, out: &mut String) -> Result<(), Stop> {
+        write!(out, "{}", self.calls)?;
+        Ok(())
+    }
+
+    fn put_files(&self, out: &mut String) -> Result<(), Stop> {
+        self.files.put(out)?;
+        Ok(())
+    }
+
+    fn put_stops(&self, alloc: Global, row: &Row, out: &mut String) -> Result<(), Stop> {
+        let words = words_of(alloc, row)?;
+        put_stops(alloc, &words, &self.files, &self.ends, out)
+    }
+
+    // The requests and the faults of streams so far are those of one more link at the door.
+    fn add_link(&mut self, alloc: Global) -> Result<(), Stop> {
+        self.links.add(alloc, &self.ends)?;
+        self.ends = Ends::new(alloc);
         Ok(())
     }
 
     // A line of the requests, with its CR LF; other bytes without.
     fn add_request(&mut self, alloc: Global, line: &str) -> Result<(), Stop> {
         if let Some(bytes) = line.strip_prefix(">| ") {
-            self.requests
+            self.ends
+                .requests
                 .extend_from_slice(&unescaped(alloc, bytes.as_bytes())?)?;
             return Ok(());
         }
         let text = line.strip_prefix("> ").unwrap_or("");
-        self.requests
+        self.ends
+            .requests
             .extend_from_slice(&unescaped(alloc, text.as_bytes())?)?;
-        self.requests.extend_from_slice(b"\r\n")?;
+        self.ends.requests.extend_from_slice(b"\r\n")?;
         Ok(())
-    }
-
-    // A session over a disk that holds these files. There is no session over a second log without a head.
-    fn left_by(&self, alloc: Global, words: &[String]) -> Result<Left, Stop> {
-        if self.head.is_empty() && self.two.len() >= LEAST_LOG {
-            return Err(Stop::NoSuchRow);
-        }
-        let mut source = MemSource::new(alloc, Vec::from_slice(alloc, &self.requests)?).failing(
-            Vec::from_slice(alloc, &self.reads_fail)?,
-        );
-        let mut sink = MemSink::new(alloc, SINK)?.failing(Vec::from_slice(
-            alloc,
-            &self.writes_fail,
-        )?);
-        let mut disk = MemDisk::new(
-            alloc,
-            &self.head,
-            &self.one,
-            &self.two,
-            ROOM,
-            &self.disk_fails,
-        )?;
-        let mut clock = FixedClock::new(0);
-        let status = mantad(
-            alloc,
-            words,
-            &mut source,
-            &mut sink,
-            &mut disk,
-            &mut NoSpawner::new(),
-            &mut clock,
-            &mut NoDoor::new(),
-        );
-        Ok(Left { status, sink, disk })
     }
 
     // A session by the words of a row, then its crash; what that leaves is the store from then on.
     fn run(&mut self, alloc: Global, row: &Row, out: &mut String) -> Result<(), Stop> {
         let words = words_of(alloc, row)?;
-        let Left { status, sink, disk } = self.left_by(alloc, &words)?;
-        write!(out, "status {status}")?;
-        put_lines(out, sink.written())?;
-        self.calls = disk.calls();
-        match disk.crash(&self.picks) {
-            Ok(image) => self.keep(alloc, &image)?,
+        let left = run_over(
+            alloc,
+            &words,
+            &self.files,
+            &self.ends,
+            &self.links,
+            &self.disk_fails,
+        )?;
+        self.take(alloc, left, out)
+    }
+
+    // Shows what a run left, and keeps what a crash leaves of it.
+    fn take(&mut self, alloc: Global, left: Left, out: &mut String) -> Result<(), Stop> {
+        left.put(out)?;
+        self.calls = left.disk.calls();
+        let image = left.disk.crash(&self.picks);
+        self.keep(alloc, image, out)?;
+        self.forget_faults(alloc);
+        Ok(())
+    }
+
+    fn keep(
+        &mut self,
+        alloc: Global,
+        image: Result<MemDisk, CrashError>,
+        out: &mut String,
+    ) -> Result<(), Stop> {
+        match image {
+            Ok(image) => self.files = Files::of(alloc, &image)?,
             Err(CrashError::NotAnImage) => out.push_str("\n    no image")?,
             Err(CrashError::Memory) => return Err(Stop::Memory),
         }
+        Ok(())
+    }
+
+    fn forget_faults(&mut self, alloc: Global) {
+        self.ends.reads_fail.clear();
+        self.ends.writes_fail.clear();
+        self.links = Links::new(alloc);
         self.disk_fails.clear();
-        self.reads_fail.clear();
-        self.writes_fail.clear();
         self.picks.clear();
-        Ok(())
-    }
-
-    fn keep(&mut self, alloc: Global, image: &MemDisk) -> Result<(), AllocError> {
-        self.head = Vec::from_slice(alloc, image.file(FileNo::Head))?;
-        self.one = Vec::from_slice(alloc, image.file(FileNo::One))?;
-        self.two = Vec::from_slice(alloc, image.file(FileNo::Two))?;
-        Ok(())
-    }
-
-    fn put_files(&self, out: &mut String) -> Result<(), AllocError> {
-        put_line(out, "head", &self.head)?;
-        put_line(out, "one", &self.one)?;
-        put_line(out, "two", &self.two)
     }
 }
 
@@ -180,31 +165,18 @@ impl Rows for Sessions {
         row: &Row,
         out: &mut String,
     ) -> Result<(), Stop> {
-        match row.call() {
-            b"store" => self.set_store(alloc, row),
-            b"new" => {
-                self.clear();
-                Ok(())
-            }
-            b"requests" => {
-                self.requests.clear();
-                Ok(())
-            }
-            b">" | b">|" => self.add_request(alloc, line),
-            b"fail" => self.set_failing(alloc, row),
-            b"crash" => {
-                self.picks = picks_of(alloc, row)?;
-                Ok(())
-            }
-            b"run" => self.run(alloc, row, out),
-            b"calls" => {
-                write!(out, "{}", self.calls)?;
-                Ok(())
-            }
-            b"files" => {
-                self.put_files(out)?;
-                Ok(())
-            }
+        match row.text(0)? {
+            "store" => self.read_files(alloc, row),
+            "new" => self.forget_files(alloc),
+            "requests" => self.forget_requests(),
+            "link" => self.add_link(alloc),
+            ">" | ">|" => self.add_request(alloc, line),
+            "fail" => self.set_failing(alloc, row),
+            "crash" => self.set_picks(alloc, row),
+            "run" => self.run(alloc, row, out),
+            "calls" => self.put_calls(out),
+            "files" => self.put_files(out),
+            "stops" => self.put_stops(alloc, row, out),
             _ => Err(Stop::NoSuchRow),
         }
     }

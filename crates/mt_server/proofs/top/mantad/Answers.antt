@@ -1,22 +1,103 @@
 -- The run, by its status.
-use Rattle.std.proofs.Common.{◌≡◌, ◌⊎◌, ℕ, subst, sym, ◌∙◌}
-use Rattle.mt_server.proofs.Openings.{over_more}
-use Rattle.mt_server.proofs.Tops.{asked_of, has_run, is_unreadable, refused_ends}
+use Rattle.std.proofs.Common.{◌≡◌, ◌⊎◌, ℕ, inl, inr, refl, ap, subst, sym, ◌∙◌}
+use Rattle.std.specs.Prelude.{IfSome}
+use Rattle.mt_engine.proofs.Openings.{not_both}
+use Rattle.mt_server.specs.Statuses.{ByBytes, IsUnopened, code_of}
+use Rattle.mt_server.specs.declared.status.Status.{Status}
+use Rattle.mt_server.proofs.Settling.{ready_by}
+use Rattle.mt_server.proofs.Tops.{asked_of, all_links, disk_rose, fewer_links, is_ended, is_many, is_no_link, is_refused, is_served, is_silent, is_truncated, is_unopened, is_unreadable, is_usage, read_rose, serve_numbers, serve_silent, unopened_numbers, write_rose}
 use Rattle.mt_server.proofs.top.mantad.Goals as goal
 
 pub returns-clause-run : goal.returns-clause-run
-returns-clause-run g c =
-    over_more (g.D.Disk.seen c.args.disk.now) _ _ (λ h run. has_run _ _ _ _ _ _ _ _ _ _ c.conclude.result _ _ _ _ _ _ c.code.ensures run) c.conclude.ensures.session
+returns-clause-run g c settings wants base h has = let x = c.run.ensures.session settings wants base h has in (c.run.result, c.code.ensures, x.0, x.1, x.2)
+
+pub returns-clause-served : goal.returns-clause-served
+returns-clause-served g c settings connections wants base h has = let x = c.run.ensures.serve settings connections wants base h has in (c.run.result, c.code.ensures, x.0, x.1, x.2)
+
+pub returns-clause-early_usage : goal.returns-clause-early_usage
+returns-clause-early_usage g c is = let u = c.run.ensures.usage (is_usage c.run.result (sym c.code.ensures ∙ is)) in (u.1, u.2, u.3, u.4)
 
 pub returns-clause-early_unreadable : goal.returns-clause-early_unreadable
 returns-clause-early_unreadable g c is =
-    let end = is_unreadable c.conclude.result (sym c.code.ensures ∙ is) in
-    let facts = c.conclude.ensures.unreadable end.0 end.1 in
-    (facts.0, (end.0, facts.1, facts.2))
+    let end = is_unreadable c.run.result (sym c.code.ensures ∙ is) in
+    let facts = c.run.ensures.refused end.0 end.1 in
+    let closed = c.run.ensures.unopened (subst (λ (s : Status). IsUnopened s) (sym end.1) tt) in
+    (closed.0, closed.1, (end.0, facts.0, facts.1))
+
+-- what is refused can't be read, so nothing was begun
+pub returns-clause-untouched : goal.returns-clause-untouched
+returns-clause-untouched g c files seen_is why refused =
+    let closed = is_unopened c.run.result (λ begun. not_both files why refused (c.run.ensures.begun begun files seen_is)) in
+    let kept = c.run.ensures.unopened closed in (
+      kept.0,
+      kept.1,
+      (λ no_usage no_line. c.run.ensures.silent (is_silent c.run.result closed (λ e. no_usage (c.code.ensures ∙ e)) (λ e. no_line (c.code.ensures ∙ e)))),
+      (λ no_usage. kept.2 files seen_is),
+    )
+
+pub returns-clause-outside : goal.returns-clause-outside
+returns-clause-outside g c = (refl, c.run.ensures.source_stays, c.run.ensures.sink_stays, c.run.ensures.rule)
+
+pub returns-clause-outside_session : goal.returns-clause-outside_session
+returns-clause-outside_session g c settings wants = (c.run.ensures.of_session settings wants).1
+
+pub returns-clause-outside_serve : goal.returns-clause-outside_serve
+returns-clause-outside_serve g c settings connections wants =
+    let of = c.run.ensures.of_serve settings connections wants in (
+      of.1,
+      (λ no_line. elim (serve_silent c.run.result of.0 (λ e. no_line (c.code.ensures ∙ e))) [ inl begun ↦ of.2 begun | inr silent ↦ c.run.ensures.silent silent ]),
+    )
+
+pub returns-clause-one : goal.returns-clause-one
+returns-clause-one g c is = (c.run.ensures.usage (is_usage c.run.result (sym c.code.ensures ∙ is))).0
+
+pub returns-clause-one_exactly : goal.returns-clause-one_exactly
+returns-clause-one_exactly g c fault is =
+    let facts = c.run.ensures.words fault is in
+    (elim facts.0 [ inl usage ↦ inl (c.code.ensures ∙ ap code_of usage) | inr memory ↦ inr (c.code.ensures ∙ ap code_of memory) ], facts.1, facts.2, facts.3)
 
 pub returns-clause-two_exactly : goal.returns-clause-two_exactly
-returns-clause-two_exactly g c files is why refused =
-    subst (λ (r : ℕ). (r ≡ 1) ⊎ (r ≡ 2) ⊎ (r ≡ 5) ⊎ (r ≡ 8)) (sym c.code.ensures) (refused_ends files c.conclude.result (λ begun. c.conclude.ensures.begun begun files is) why refused)
+returns-clause-two_exactly g c files seen_is why refused =
+    let closed = is_unopened c.run.result (λ begun. not_both files why refused (c.run.ensures.begun begun files seen_is)) in
+    subst (λ (r : ℕ). (r ≡ 1) ⊎ (r ≡ 2) ⊎ (r ≡ 5) ⊎ (r ≡ 8)) (sym c.code.ensures) (unopened_numbers c.run.result closed)
+
+pub returns-clause-three : goal.returns-clause-three
+returns-clause-three g c is = read_rose c.run.result _ _ _ _ (sym c.code.ensures ∙ is) c.run.ensures.by_link
+
+pub returns-clause-four : goal.returns-clause-four
+returns-clause-four g c is = write_rose c.run.result _ _ _ _ (sym c.code.ensures ∙ is) c.run.ensures.by_link
+
+pub returns-clause-five : goal.returns-clause-five
+returns-clause-five g c is = disk_rose c.run.result _ _ (sym c.code.ensures ∙ is) c.run.ensures.by_disk
+
+pub returns-clause-of_serve : goal.returns-clause-of_serve
+returns-clause-of_serve g c settings connections wants =
+    subst (λ (r : ℕ). (r ≡ 0) ⊎ (r ≡ 2) ⊎ (r ≡ 5) ⊎ (r ≡ 8) ⊎ (r ≡ 10)) (sym c.code.ensures) (serve_numbers c.run.result (c.run.ensures.of_serve settings connections wants).0)
+
+pub returns-clause-ten : goal.returns-clause-ten
+returns-clause-ten g c is =
+    let end = is_no_link c.run.result (sym c.code.ensures ∙ is) in
+    (c.run.ensures.no_link end, (λ settings connections wants. (fewer_links c.run.result _ _ _ _ _ end (c.run.ensures.by_door settings connections wants))))
+
+pub returns-clause-links : goal.returns-clause-links
+returns-clause-links g c settings connections wants is =
+    let end = is_served c.run.result (c.run.ensures.of_serve settings connections wants).0 (sym c.code.ensures ∙ is) in
+    all_links c.run.result _ _ _ _ _ end (c.run.ensures.by_door settings connections wants)
+
+pub returns-clause-zero : goal.returns-clause-zero
+returns-clause-zero g c settings wants is = subst (λ (s : Status). IfSome (g.S.Source.left c.args.source.now) (λ bytes. ByBytes bytes s)) (is_ended c.run.result (c.run.ensures.of_session settings wants).0 (sym c.code.ensures ∙ is)) c.run.ensures.by_bytes
+
+pub returns-clause-eleven : goal.returns-clause-eleven
+returns-clause-eleven g c is = subst (λ (s : Status). IfSome (g.S.Source.left c.args.source.now) (λ bytes. ByBytes bytes s)) (is_truncated c.run.result (sym c.code.ensures ∙ is)) c.run.ensures.by_bytes
+
+pub returns-clause-twelve : goal.returns-clause-twelve
+returns-clause-twelve g c is = subst (λ (s : Status). IfSome (g.S.Source.left c.args.source.now) (λ bytes. ByBytes bytes s)) (is_refused c.run.result (sym c.code.ensures ∙ is)) c.run.ensures.by_bytes
+
+pub returns-clause-thirteen : goal.returns-clause-thirteen
+returns-clause-thirteen g c is = subst (λ (s : Status). IfSome (g.S.Source.left c.args.source.now) (λ bytes. ByBytes bytes s)) (is_many c.run.result (sym c.code.ensures ∙ is)) c.run.ensures.by_bytes
 
 pub returns-clause-by_bytes : goal.returns-clause-by_bytes
-returns-clause-by_bytes g c = asked_of _ c.conclude.result _ c.code.ensures c.conclude.ensures.by_bytes
+returns-clause-by_bytes g c settings wants = asked_of _ c.run.result _ c.code.ensures (c.run.ensures.of_session settings wants).0 c.run.ensures.by_bytes
+
+pub returns-clause-rest : goal.returns-clause-rest
+returns-clause-rest g c no_fault no_want tells = ready_by c.run.result _ _ (λ e. no_fault (c.code.ensures ∙ e)) (λ e. no_want (c.code.ensures ∙ e)) (λ e. tells (c.code.ensures ∙ e)) c.run.ensures.rest

@@ -1,6 +1,0 @@
--- Each call is on fewer words.
-use Rattle.std.proofs.Common.{length}
-use Rattle.mt_server.proofs.settings.+all_options.Given as goal
-
-abbrev pub decreases-all_options : goal.decreases-all_options
-decreases-all_options l = length l.words.now

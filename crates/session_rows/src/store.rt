@@ -1,0 +1,169 @@
+//! The files of a store, what is read from and written to, and one run over them.
+use crate::links::Links;
+use mt_disk::{FileNo, MemDisk, Room};
+use mt_edge::{FixedClock, MemDoor, MemSink, MemSource};
+use mt_rows::{Row, Stop, put_line, put_lines};
+use mt_server::mantad;
+use mt_spawn::NoSpawner;
+use std::alloc::{AllocError, Global};
+
+/// The room of a session's disk.
+const ROOM: Room = Room {
+    file: 131_072,
+    calls: 1_024,
+    written: 131_072,
+};
+
+/// The room of a sink, in bytes.
+const SINK: usize = 131_072;
+
+/// The bytes of a log without a command.
+const LEAST_LOG: usize = 9;
+
+/// The three files of a store.
+#[derive(Drop)]
+pub struct Files {
+    head: Vec<u8>,
+    one: Vec<u8>,
+    two: Vec<u8>,
+}
+
+impl Files {
+    /// Those of a new store.
+    pub fn new(alloc: Global) -> Files {
+        Files {
+            head: Vec::new(alloc),
+            one: Vec::new(alloc),
+            two: Vec::new(alloc),
+        }
+    }
+
+    /// Those that a row names behind its call.
+    pub fn read(alloc: Global, row: &Row) -> Result<Files, Stop> {
+        Ok(Files {
+            head: Vec::from_slice(alloc, row.bytes(1)?)?,
+            one: Vec::from_slice(alloc, row.bytes(2)?)?,
+            two: Vec::from_slice(alloc, row.bytes(3)?)?,
+        })
+    }
+
+    /// Those of a disk.
+    pub fn of(alloc: Global, disk: &MemDisk) -> Result<Files, AllocError> {
+        Ok(Files {
+            head: Vec::from_slice(alloc, disk.file(FileNo::Head))?,
+            one: Vec::from_slice(alloc, disk.file(FileNo::One))?,
+            two: Vec::from_slice(alloc, disk.file(FileNo::Two))?,
+        })
+    }
+
+    /// A line for each file.
+    pub fn put(&self, out: &mut String) -> Result<(), AllocError> {
+        put_line(out, "head", &self.head)?;
+        put_line(out, "one", &self.one)?;
+        put_line(out, "two", &self.two)
+    }
+}
+
+/// What is read and how reads and writes fail, counted from 0.
+#[derive(Drop)]
+pub struct Ends {
+    pub requests: Vec<u8>,
+    pub reads_fail: Vec<u64>,
+    pub writes_fail: Vec<u64>,
+}
+
+impl Ends {
+    /// Nothing is read, and nothing fails.
+    pub fn new(alloc: Global) -> Ends {
+        Ends {
+            requests: Vec::new(alloc),
+            reads_fail: Vec::new(alloc),
+            writes_fail: Vec::new(alloc),
+        }
+    }
+
+    /// The same once more.
+    pub fn copy(&self, alloc: Global) -> Result<Ends, AllocError> {
+        Ok(Ends {
+            requests: Vec::from_slice(alloc, &self.requests)?,
+            reads_fail: Vec::from_slice(alloc, &self.reads_fail)?,
+            writes_fail: Vec::from_slice(alloc, &self.writes_fail)?,
+        })
+    }
+
+    /// The source of these bytes.
+    pub fn source(&self, alloc: Global) -> Result<MemSource, AllocError> {
+        let source = MemSource::new(alloc, Vec::from_slice(alloc, &self.requests)?);
+        Ok(source.failing(Vec::from_slice(alloc, &self.reads_fail)?))
+    }
+
+    /// An empty sink.
+    pub fn sink(&self, alloc: Global) -> Result<MemSink, AllocError> {
+        let sink = MemSink::new(alloc, SINK)?;
+        Ok(sink.failing(Vec::from_slice(alloc, &self.writes_fail)?))
+    }
+}
+
+/// What a run left.
+#[derive(Drop)]
+pub struct Left {
+    pub status: u8,
+    pub sink: MemSink,
+    pub disk: MemDisk,
+    door: MemDoor,
+}
+
+impl Left {
+    /// The status, what was written, and the lines of each link that was given back.
+    pub fn put(&self, out: &mut String) -> Result<(), AllocError> {
+        write!(out, "status {}", self.status)?;
+        put_lines(out, self.sink.written())?;
+        self.put_links(out)
+    }
+
+    // The lines of each link that was given back, behind its number.
+    fn put_links(&self, out: &mut String) -> Result<(), AllocError> {
+        let mut number = 0u64;
+        for link in self.door.given_back() {
+            number = number.saturating_add(1);
+            write!(out, "\n    link {number}")?;
+            put_lines(out, link.sink.written())?;
+        }
+        Ok(())
+    }
+}
+
+/// A run by these words over a disk that holds these files. There is none over a second log without a head.
+pub fn run_over(
+    alloc: Global,
+    words: &[String],
+    files: &Files,
+    ends: &Ends,
+    links: &Links,
+    disk_fails: &[u64],
+) -> Result<Left, Stop> {
+    let Files { head, one, two } = files;
+    if head.is_empty() && two.len() >= LEAST_LOG {
+        return Err(Stop::NoSuchRow);
+    }
+    let mut source = ends.source(alloc)?;
+    let mut sink = ends.sink(alloc)?;
+    let mut disk = MemDisk::new(alloc, head, one, two, ROOM, disk_fails)?;
+    let mut door = MemDoor::new(alloc, links.waiting(alloc)?)?.failing(links.failing(alloc)?);
+    let status = mantad(
+        alloc,
+        words,
+        &mut source,
+        &mut sink,
+        &mut disk,
+        &mut NoSpawner::new(),
+        &mut FixedClock::new(0),
+        &mut door,
+    );
+    Ok(Left {
+        status,
+        sink,
+        disk,
+        door,
+    })
+}

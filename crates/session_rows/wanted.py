@@ -1,0 +1,449 @@
+#!/usr/bin/env python3
+"""Prints the wanted table of session_rows: `python3 wanted.py > stdout`, and stdin by docs/CONTRIBUTING.md.
+
+Replies are those of tests/model.py, logs are written here by docs/FORMATS.md with Python's `struct` and `hashlib`, and statuses
+and counts of calls stand below by hand. Nothing here knows the code.
+"""
+import hashlib
+import json
+import pathlib
+import struct
+import sys
+
+sys.path.insert(0, str(pathlib.Path(__file__).resolve().parents[2] / "tests"))
+from model import ERRORS, PHRASES, Store, http_date  # noqa: E402
+
+SESSION = "session --login l --store s --at 0"
+SERVE = "serve --login l --store s --at 0 --listen x --connections"
+USAGE = b"usage: mantad COMMAND [OPTIONS]\n"
+PLAIN = {9: "\\t", 10: "\\n", 13: "\\r", 92: "\\x5c"}
+OPENING = 9  # calls of the disk that make a log and open it
+
+
+def reopening(records):
+    """Calls of the disk that open a log: a sync of each file, and five reads a record, three of which find its place and its digest."""
+    return 3 + 5 * records
+
+
+# Rows.
+def escaped(data, blank=" "):
+    out = "".join(PLAIN.get(b, chr(b) if 32 <= b <= 126 else f"\\x{b:02x}") for b in data)
+    return out if blank == " " else out.replace(" ", blank)
+
+
+def shown(data):
+    out = escaped(data)
+    return out[:-1] + "\\s" if out.endswith(" ") else out
+
+
+def word(data):
+    return escaped(data, "\\s") if data else "\\e"
+
+
+def named(mark, data):
+    return f"    {mark} {shown(data)}".rstrip(" ") if data else f"    {mark}"
+
+
+def answered(row, answer):
+    print(f"{row:<48} => {answer}")
+
+
+def print_lines(data):
+    for line in data.splitlines(keepends=True) if data else []:
+        print(named("<", line[:-2]) if line.endswith(b"\r\n") else named("<|", line))
+
+
+# Messages.
+def message(head, body=None):
+    """A message of these lines, with the length of its body where it has one."""
+    lines = head.split("\n") + ([f"Content-Length: {len(body)}"] if body is not None else [])
+    return "".join(line + "\r\n" for line in lines + [""]).encode("latin-1") + (body or b"")
+
+
+def put(name, body=b"hello", *fields):
+    return message("\n".join([f"PUT /l/stor/{name} HTTP/1.1", "Content-Type: text/plain", *fields]), body)
+
+
+def get(name, *fields):
+    return message("\n".join([f"GET /l/stor/{name} HTTP/1.1", *fields]))
+
+
+def delete(name):
+    return message(f"DELETE /l/stor/{name} HTTP/1.1")
+
+
+def refusal(code, position, head_only=False):
+    """The reply behind which no message is read."""
+    status, words = ERRORS[code]
+    data = json.dumps({"code": code, "message": words}, separators=(",", ":")).encode()
+    fields = ["connection: close", f"content-length: {len(data)}", "content-type: application/json", f"date: {http_date(0)}", f"x-marlin-position: {position}"]
+    head = "".join(line + "\r\n" for line in [f"HTTP/1.1 {status} {PHRASES[status]}", *fields, ""]).encode()
+    return head if head_only else head + data
+
+
+INTERIM = b"HTTP/1.1 100 Continue\r\n\r\n"
+
+
+# Logs, by docs/FORMATS.md.
+def record(payload):
+    return b"\x01" + struct.pack(">I", len(payload)) + hashlib.md5(payload).digest() + payload
+
+
+def put_command(name, content_type, place, length, moment=0, area=0):
+    path = struct.pack(">BH", area, 1) + struct.pack(">H", len(name)) + name
+    return struct.pack(">BQ", 1, moment) + path + struct.pack(">H", len(content_type)) + content_type + struct.pack(">QQ", place, length)
+
+
+def log(*payloads):
+    return b"MTLOG002" + b"".join(record(payload) for payload in payloads) + b"\0"
+
+
+def log_of_hello(name=b"a"):
+    return log(b"\0hello", put_command(name, b"text/plain", 8, 5))
+
+
+class Table:
+    def __init__(self):
+        self.store = Store()
+
+    def note(self, text):
+        print(f"\n# {text}")
+
+    def new(self, limit=1 << 30):
+        self.store = Store(limit=limit)
+        print("new")
+
+    def given(self, *messages):
+        """The requests from here on."""
+        print("requests")
+        for one in messages:
+            head, found, body = one.partition(b"\r\n\r\n")
+            lines = head.split(b"\r\n") if found else one.split(b"\r\n")[:-1]
+            rest = body if found else one.split(b"\r\n")[-1]
+            for line in lines + ([b""] if found else []):
+                print("> " + shown(line) if line else ">")
+            if rest:
+                print(">| " + escaped(rest))
+
+    def replies(self, *messages):
+        return b"".join(self.store.ask(one) for one in messages)
+
+    def run(self, words, status, out=b"", links=()):
+        answered(f"run {words}", f"status {status}")
+        print_lines(out)
+        for number, said in enumerate(links, 1):
+            print(f"    link {number}")
+            print_lines(said)
+
+    def session(self, *messages, words=SESSION):
+        """Requests that are all answered, by a session of status 0."""
+        self.given(*messages)
+        self.run(words, 0, self.replies(*messages))
+
+    def refused(self, bad, code, *before, head_only=False):
+        """Requests that are answered, and then bytes that are no message."""
+        self.given(*before, bad)
+        out = self.replies(*before)
+        self.run(SESSION, 12, out + refusal(code, self.store.count, head_only))
+
+    def calls(self, count):
+        answered("calls", count)
+
+    def files(self, one, head=b"\x01", two=b""):
+        print("files")
+        for name, data in (("head", head), ("one", one), ("two", two)):
+            print(named(name, data))
+
+    def holds(self, head, one, two=b""):
+        print(f"store {word(head)} {word(one)} {word(two)}")
+
+    def stops(self, counts, told=0, opening=OPENING):
+        """A session of commands that take so many calls each: the last but one opens the gate, the last syncs."""
+        print(f"stops {SESSION}".ljust(48).rstrip())
+        call = 0
+        for _ in range(opening):
+            print(f"    call {call}: status 5, told none, left" + f" {told}" * 5)
+            call += 1
+        for place, count in enumerate(counts):
+            before, after = told + place, told + place + 1
+            said = before if place else "none"
+            for k in range(count):
+                # Of a gate that was not synced a crash leaves the byte 1 where it leaves ones or the whole.
+                left = [before, before, after, before, after] if k >= count - 2 else [before] * 5
+                print(f"    call {call}: status 5, told {said}, left " + " ".join(map(str, left)))
+                call += 1
+
+
+def objects(t):
+    t.note("A put of five bytes, and then a GET of them. Making a log and opening it are nine calls of the disk, a put of one piece is eight, a GET of it one.")
+    t.new()
+    t.session(put("a"), get("a"))
+    t.calls(OPENING + 8 + 1)
+    t.note("The log of that put: MTLOG002, the piece and the command, each behind the byte 1, its length and its MD5, and a gate.")
+    t.files(log_of_hello())
+    t.note("A session over what it left gets the object; one more puts it anew, with nothing in it.")
+    t.session(get("a"))
+    t.session(put("a", b""), get("a"), get("a", "Range: bytes=0-0"))
+    t.note("A body of two pieces, a part of it over their border, and the store opened again.")
+    t.new()
+    body = bytes(range(97, 123)) * 2521
+    t.session(put("large", body), get("large", "Range: bytes=65530-65545"))
+    t.session(get("large", "Range: bytes=-3"))
+    t.note("Directories, a page, a link, a delete, conditions, marks; what is not built yet is said.")
+    t.new()
+    t.session(
+        message("PUT /l/stor/d HTTP/1.1\nContent-Type: application/json; type=directory"),
+        put("d/a", b"1", "If-None-Match: *"),
+        put("d/a", b"2", "If-None-Match: *"),
+        put("d/b", b"3", "M-colour: red", "Durability-Level: 3"),
+        message("PUT /l/stor/link HTTP/1.1\nContent-Type: application/json; type=link\nLocation: /l/stor/d/b"),
+        get("d?limit=1"),
+        message("HEAD /l/stor/link HTTP/1.1"),
+        delete("d"),
+        delete("d/b"),
+        get("link"),
+        get("d/b"),
+        message("GET /l/jobs HTTP/1.1"),
+        message("GET /m/stor/a HTTP/1.1"),
+        message("HEAD /m/stor/a HTTP/1.1"),
+        message("POST /l/stor/a HTTP/1.1", b"x"),
+    )
+    t.session(get("d"), get(""), get("link", "If-Modified-Since: Thu, 01 Jan 1970 00:00:00 GMT"))
+
+
+DIRECTORY = "Content-Type: application/json; type=directory"
+LINK = "Content-Type: application/json; type=link"
+TAG = '"00000001-0000-8000-8000-00000000{}"'
+
+
+def made(kind, name, *fields):
+    return message("\n".join([f"PUT /l/stor{name} HTTP/1.1", kind, *fields]))
+
+
+def routes(t):
+    t.note("What is above a put, or stands at its path.")
+    t.new()
+    t.session(put("x/y"))
+    t.files(log())
+    t.session(put("a"), put("a/b"), made(DIRECTORY, "/d"), put("d"), made(DIRECTORY, "/a"), made(DIRECTORY, "/d"), message("PUT /l/stor HTTP/1.1", b"hello"))
+    t.note("Pages.")
+    t.new()
+    t.session(*(put(name, b"") for name in "bac"))
+    t.session(*(message(f"GET /l/stor?{query} HTTP/1.1") for query in ("limit=2", "limit=2&marker=b", "limit=0", "limit=1025")))
+    t.note("A directory is deleted once it is empty.")
+    t.new()
+    t.session(made(DIRECTORY, "/d"), put("d/x"), delete("d"), delete("d/x"), delete("d"), get("d"))
+    t.note("A link keeps what its source held; and a link that can't be made.")
+    t.new()
+    t.session(put("a"), made(LINK, "/b", "Location: /l/stor/a"), put("a", b"bye"), delete("a"), get("b"))
+    t.session(made(LINK, "/c", "Location: /l/stor/a"), made(LINK, "/c", "Location: /l/stor"), made(LINK, "/c"))
+    t.note("Puts of two writers, and a reader that has it.")
+    t.new()
+    t.session(put("a", b"1", "If-None-Match: *"), put("a", b"2", "If-None-Match: *"), put("a", b"3", f"If-Match: {TAG.format('0000')}"), put("a", b"4", f"If-Match: {TAG.format('0000')}"), get("a", f"If-None-Match: {TAG.format('1000')}"))
+    t.session(get("a", "If-Modified-Since: Thu, 01 Jan 1970 00:00:00 GMT"), get("a", "If-Modified-Since: yesterday"), put("a", b"5", "If-Unmodified-Since: Thu, 01 Jan 1970 00:00:00 GMT"))
+    t.session(message("DELETE /l/stor/a HTTP/1.1\nIf-None-Match: *"))
+    t.note("Ranges.")
+    t.new()
+    t.session(put("a"), *(get("a", f"Range: bytes={part}") for part in ("5-", "-2", "1-100", "0-1,3-4")))
+    t.note("A digest, a login, a method, an area and a path that are refused.")
+    t.new()
+    t.session(put("a", b"hello", "Content-MD5: 1B2M2Y8AsgTpgAmY7PhCfg=="), message("GET /m/stor/a HTTP/1.1"), message("PATCH /l/stor/a HTTP/1.1"), message("GET /l/other HTTP/1.1"), message("GET /l HTTP/1.1"))
+
+
+def words(t):
+    t.note("Words that are not of the grammar: one line, and no call of the disk.")
+    t.new()
+    t.given(put("a"), get("a"))
+    for wrong in (
+        "session --login l", "", "serve --login l --store s", "sessions --login l --store s", "session --store s", "session --login l --store \\e",
+        "session --login \\e --store s", "session --login l/ --store s", "session --login l --login l --store s",
+        "session --login l --store s --at 253402300800", "session --login l --store s --at +5", "session --login l --store s --at",
+        "session --login l --store s --log-limit 8", "session --login l --store s --log-limit 68719476737",
+        "session --login l --store s --log-limit 9 --log-limit 9", "session --login l --store s --slots 0", "session --login l --store s --slots 65",
+        "session --login l --store s --connections 1 --listen x", "serve --login l --store s --connections 0 --listen x",
+        "serve --login l --store s --connections 1000001 --listen x", "serve --login l --store s --connections 1 --listen \\e",
+    ):
+        t.run(wrong, 1, USAGE)
+        t.calls(0)
+    t.files(b"", head=b"")
+    t.note("Words of the grammar.")
+    for right in (
+        "session --log-limit 9 --store s --login l", "session --log-limit 068719476736 --store s --login l",
+        "session --at 0253402300799 --store s --login Some_login-1", "session --store --at --login l", "session --login l --store s --slots 64 --work w --helper h",
+    ):
+        t.new()
+        t.given()
+        t.run(right, 0)
+
+
+def stores(t):
+    hello = log_of_hello()
+    t.note("What a disk holds at opening: nothing, less than a log, Head 7, Head 2 over one log or a part of a second, and a log in Two.")
+    for head, one, two, there, after in (
+        (b"", b"", b"", False, (b"\x01", log(), b"")), (b"", b"MTLOG", b"12345678", False, (b"\x01", log(), b"12345678")),
+        (b"\x07", hello, b"", True, None), (b"\x02", hello, b"", True, (b"\x01", hello, b"")), (b"\x02", hello, b"MTLOG002", True, (b"\x01", hello, b"MTLOG002")),
+        (b"\x02", b"", hello, True, None),
+    ):
+        t.store = Store()
+        if there:
+            t.store.ask(put("a"))
+        t.holds(head, one, two)
+        t.session(get("a"))
+        head, one, two = after or (head, one, two)
+        t.files(one, head, two)
+    t.note("Stores that are refused are left as they are: no log, a second log of another kind, an old log, and payloads that are no command.")
+    bad = [
+        (b"MTLOG002", "not a log"), (b"MTLOG001\0", "old log, run compact"), (log(b"\xff"), "foreign at 8"), (log(b""), "foreign at 8"),
+        # A put whose body stands in it, one whose body is nowhere, and one whose moment is too large.
+        (log(put_command(b"a", b"text/plain", 8, 5)[:-16] + struct.pack(">I", 5) + b"hello"), "foreign at 8"),
+        (log(put_command(b"a", b"text/plain", 8, 5)), "foreign at 8"),
+        (log(put_command(b"a", b"", 0, 0, moment=253_402_300_800)), "foreign at 8"),
+        (log(b"\0hello", put_command(b"a", b"", 8, 6)), "foreign at 35"),
+        (log(b"\0hello", put_command(b"..", b"", 8, 5)), "foreign at 35"),
+    ]
+    broken = hello.replace(b"hello", b"hellp")
+    kept, computed = hashlib.md5(b"\0hello").hexdigest(), hashlib.md5(b"\0hellp").hexdigest()
+    bad += [(broken, f"damaged at 8 kept {kept} computed {computed}"), (hello[:-1], f"short at {len(hello) - 1} wanted 1 left 0"), (hello[:40], "short at 35 wanted 21 left 5")]
+    t.given(put("a"), get("a"))
+    for one, why in bad:
+        t.holds(b"\x01", one)
+        t.run(SESSION, 2, f"mantad: {why}\n".encode())
+        t.files(one)
+    t.holds(b"\x02", hello, b"MTLOG003\0")
+    t.run(SESSION, 2, b"mantad: not a log\n")
+    t.files(hello, b"\x02", b"MTLOG003\0")
+    t.note("The same where the line can't be written, and where the disk fails: nothing is written then.")
+    t.holds(b"\x01", b"MTLOG002")
+    print("fail writes 0")
+    t.run(SESSION, 2)
+    t.files(b"MTLOG002")
+    print("fail disk 3")
+    t.run(SESSION, 5)
+    t.files(b"MTLOG002")
+    t.note("A serve over such a store takes no link.")
+    t.run(f"{SERVE} 1", 2, b"mantad: not a log\n")
+
+
+def limits(t):
+    whole = len(log_of_hello())
+    t.note("The limit of the log: a put that would pass it is refused, and what has room of its body stays.")
+    for limit in (whole - 1, whole, 35, 36):
+        t.new(limit)
+        t.session(put("a"), get("a"), words=f"{SESSION} --log-limit {limit}")
+        if limit >= whole:
+            t.files(log_of_hello())
+        else:
+            t.files(log(b"\0hello") if limit >= 36 else log())
+
+
+def crashes(t):
+    t.note("Each call of the disk fails in turn, and a crash leaves nothing, zeros, ones, half or all of what was not synced: each position that was told of stands.")
+    t.new()
+    t.given(put("a"))
+    t.stops([8])
+    t.given(put("a"), delete("a"), put("b", b"hi"))
+    t.stops([8, 6, 8])
+    t.session(put("a"), delete("a"))
+    t.given(message("PUT /l/stor/d HTTP/1.1\nContent-Type: application/json; type=directory"), put("d/x"))
+    t.stops([6, 8], told=2, opening=reopening(3))
+    t.note("The source fails; the sink fails, and the put is in the log.")
+    t.new()
+    t.given(put("a"), get("a"))
+    print("fail reads 0")
+    t.run(SESSION, 3)
+    t.new()
+    print("fail writes 0")
+    t.run(SESSION, 4)
+    t.store.ask(put("a"))
+    t.session(get("a"))
+
+
+def ends(t):
+    t.note("Ends of a source: none, blank lines, within a head, within a body, and behind a message that closes.")
+    t.new()
+    t.session()
+    t.given(b"\r\n\n\r")
+    t.run(SESSION, 0)
+    t.given(b"GET /l/stor/a HTTP/1.1\r\n")
+    t.run(SESSION, 11)
+    t.given(put("a")[:-1])
+    t.run(SESSION, 11)
+    t.given(put("a"), get("a")[:-2])
+    t.run(SESSION, 11, t.replies(put("a")))
+    last = get("a", "Connection: x, Close")
+    t.given(last, b"GE(T")
+    t.run(SESSION, 0, t.replies(last))
+    t.note("What is no message is refused, and nothing behind it is read; to a HEAD without a body.")
+    t.refused(b"GE(T /l/stor/a HTTP/1.1\r\n\r\n", "BadRequest", get("none"))
+    t.refused(b"GET /l/stor/a HTTP/2.0\r\n\r\n", "BadRequest")
+    t.refused(message("PUT /l/stor/a HTTP/1.1\nContent-Length: 5\nContent-Length: 6"), "BadRequest")
+    t.refused(message("PUT /l/stor/a HTTP/1.1\nContent-Length: 5\nTransfer-Encoding: chunked"), "BadRequest")
+    t.refused(message("PUT /l/stor/a HTTP/1.1\nTransfer-Encoding: chunked") + b"x\r\n", "BadRequest")
+    t.refused(message("PUT /l/stor/a HTTP/1.1\nContent-Length: 1073741825"), "RequestEntityTooLarge")
+    t.refused(message("DELETE /l/stor/a HTTP/1.1\nContent-Length: 16777217"), "RequestEntityTooLarge", get("none"))
+    t.refused(message("PUT /l/stor/a HTTP/1.1\nExpect: 100-continue\nContent-Length: 1073741825"), "RequestEntityTooLarge")
+    t.note("Chunks, with an extension and a trailer; a client that waits is told to go on where a body comes, and not for an empty one.")
+    chunks = message("PUT /l/stor/a HTTP/1.1\nTransfer-Encoding: chunked") + b"3;x=y\r\nhel\r\n2\r\nlo\r\n0\r\nt: v\r\n\r\n"
+    t.session(chunks, get("a"))
+    waiting = put("a", b"bye", "Expect: 100-continue")
+    t.given(waiting, get("a"))
+    t.run(SESSION, 0, INTERIM + t.replies(waiting, get("a")))
+    t.session(put("a", b"", "Expect: 100-continue"))
+    t.note("A client of the version before: it is not told to go on, and its connection is closed behind the reply.")
+    old = message("PUT /l/stor/old HTTP/1.0\nExpect: 100-continue", b"o")
+    t.given(old, get("old"))
+    t.run(SESSION, 0, t.replies(old))
+
+
+def serves(t):
+    t.note("Two links over a door, one after the other, over one account; what stands on standard input is not read.")
+    t.new()
+    t.given(put("a"))
+    print("link")
+    t.given(get("a"), get("b"))
+    print("link")
+    t.given(put("unread"))
+    t.run(f"{SERVE} 2", 0, links=[t.replies(put("a")), t.replies(get("a"), get("b"))])
+    t.session(get(""))
+    t.note("A door that fails at the third link, and one at which no link waits.")
+    for _ in range(2):
+        t.given(put("b", b"1"))
+        print("link")
+    print("fail door 2")
+    t.run(f"{SERVE} 3", 10, links=[t.replies(put("b", b"1")), t.replies(put("b", b"1"))])
+    t.run(f"{SERVE} 1", 10)
+    t.note("A link that is cut off, one of no messages, one that is refused, and those whose reads or writes fail: each is given back, and the next is served.")
+    t.given(put("c")[:-1])
+    print("link")
+    t.given()
+    print("link")
+    t.given(b"GE(T\r\n\r\n")
+    print("link")
+    t.given(get("a"))
+    print("fail reads 0")
+    print("link")
+    t.given(put("c"))
+    print("fail writes 0")
+    print("link")
+    t.given(get("c"))
+    print("link")
+    said = [b"", b"", refusal("BadRequest", t.store.count), b"", b""]
+    t.store.ask(put("c"))
+    t.run(f"{SERVE} 6", 0, links=said + [t.replies(get("c"))])
+    t.note("A fault of the disk ends the serve: the link is given back, the next is not taken, and what was told stands.")
+    t.given(put("d"), put("e"))
+    print("link")
+    t.given(get("a"))
+    print("link")
+    print(f"fail disk {reopening(8) + 8}")
+    t.run(f"{SERVE} 2", 5, links=[t.replies(put("d"))])
+    t.session(get("d"), get("e"))
+
+
+def main():
+    for part in (objects, routes, words, stores, limits, crashes, ends, serves):
+        part(TABLE)
+
+
+TABLE = Table()
+main()
