@@ -35,22 +35,25 @@ static void sync_of(int file) {
     if (fdatasync(file)) fail("fdatasync");
 }
 
-// The six calls that the store makes for each put: a record behind the closed gate, a sync, the gate, a sync.
+// The eight calls that the store makes for each put: the record of its piece behind the closed gate, that of its command, a gate, a
+// sync, the gate of the run, a sync.
 static void device(const char *body, long count, long size, const char *name) {
-    // the first byte, moment and path's head; the name of 13 bytes, the content type of 10, the body, each behind its length
-    const size_t payload_size = 1 + 8 + 3 + (2 + 13) + (2 + 10) + (4 + size);
-    char head[20] = {0}, *payload = calloc(1, payload_size);
-    if (!payload) fail("calloc");
-    memcpy(payload + payload_size - size, body, size);
+    // the first byte, the moment, the path with a name of 13 bytes, the content type of 10, and the reference to the body
+    const size_t command_size = 1 + 8 + 3 + (2 + 13) + (2 + 10) + 16;
+    char head[21] = {0}, command[64] = {0}, *piece = calloc(1, 1 + size);
+    if (!piece) fail("calloc");
+    memcpy(piece + 1, body, size);
     int file = open(name, O_RDWR | O_CREAT | O_TRUNC, 0644);
     if (file < 0) fail(name);
     write_at(file, "MTLOG002", 9, 0);
     sync_of(file);
     off_t gate = 8;
     for (long i = 0; i < count; i++) {
-        off_t next = gate + 1 + 20 + payload_size;
+        off_t second = gate + 21 + 1 + size, next = second + 21 + command_size;
         write_at(file, head, 20, gate + 1);
-        write_at(file, payload, payload_size, gate + 1 + 20);
+        write_at(file, piece, 1 + size, gate + 21);
+        write_at(file, head, 21, second);
+        write_at(file, command, command_size, second + 21);
         write_at(file, "\0", 1, next);
         sync_of(file);
         write_at(file, "\1", 1, gate);
