@@ -206,11 +206,10 @@ def doors(t):
 
 
 def outside():
-    say("A clock that stands gives its moment; the last one is 9999-12-31T23:59:59Z. There is no spawner, so no start begins.")
+    say("A clock that stands gives its moment; the last one is 9999-12-31T23:59:59Z.")
     for moment in [0, 1_700_000_000, LAST_MOMENT]:
         row(f"clock {moment}", moment)
     row("last-moment", LAST_MOMENT)
-    row("no-spawner input", "Failed")
 
 
 def main():

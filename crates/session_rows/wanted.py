@@ -72,13 +72,12 @@ def delete(name):
     return message(f"DELETE /l/stor/{name} HTTP/1.1")
 
 
-def refusal(code, position, head_only=False):
-    """The reply behind which no message is read."""
+def refusal(code, position):
+    """The reply behind which no message is read. It has its body, whatever the method."""
     status, words = ERRORS[code]
     data = json.dumps({"code": code, "message": words}, separators=(",", ":")).encode()
     fields = ["connection: close", f"content-length: {len(data)}", "content-type: application/json", f"date: {http_date(0)}", f"x-marlin-position: {position}"]
-    head = "".join(line + "\r\n" for line in [f"HTTP/1.1 {status} {PHRASES[status]}", *fields, ""]).encode()
-    return head if head_only else head + data
+    return "".join(line + "\r\n" for line in [f"HTTP/1.1 {status} {PHRASES[status]}", *fields, ""]).encode() + data
 
 
 INTERIM = b"HTTP/1.1 100 Continue\r\n\r\n"
@@ -140,11 +139,11 @@ class Table:
         self.given(*messages)
         self.run(words, 0, self.replies(*messages))
 
-    def refused(self, bad, code, *before, head_only=False):
+    def refused(self, bad, code, *before):
         """Requests that are answered, and then bytes that are no message."""
         self.given(*before, bad)
         out = self.replies(*before)
-        self.run(SESSION, 12, out + refusal(code, self.store.count, head_only))
+        self.run(SESSION, 12, out + refusal(code, self.store.count))
 
     def calls(self, count):
         answered("calls", count)
@@ -373,12 +372,15 @@ def ends(t):
     last = get("a", "Connection: x, Close")
     t.given(last, b"GE(T")
     t.run(SESSION, 0, t.replies(last))
-    t.note("What is no message is refused, and nothing behind it is read; to a HEAD without a body.")
+    t.note("What is no message is refused, and nothing behind it is read; what begins as a HEAD too.")
     t.refused(b"GE(T /l/stor/a HTTP/1.1\r\n\r\n", "BadRequest", get("none"))
     t.refused(b"GET /l/stor/a HTTP/2.0\r\n\r\n", "BadRequest")
     t.refused(message("PUT /l/stor/a HTTP/1.1\nContent-Length: 5\nContent-Length: 6"), "BadRequest")
     t.refused(message("PUT /l/stor/a HTTP/1.1\nContent-Length: 5\nTransfer-Encoding: chunked"), "BadRequest")
     t.refused(message("PUT /l/stor/a HTTP/1.1\nTransfer-Encoding: chunked") + b"x\r\n", "BadRequest")
+    t.refused(message("HEAD /l/stor/a HTTP/1.1\nContent-Length: x"), "BadRequest")
+    t.given(message("PUT /l/stor/a HTTP/1.1\nTransfer-Encoding: chunked") + b"5")
+    t.run(SESSION, 11)
     t.refused(message("PUT /l/stor/a HTTP/1.1\nContent-Length: 1073741825"), "RequestEntityTooLarge")
     t.refused(message("DELETE /l/stor/a HTTP/1.1\nContent-Length: 16777217"), "RequestEntityTooLarge", get("none"))
     t.refused(message("PUT /l/stor/a HTTP/1.1\nExpect: 100-continue\nContent-Length: 1073741825"), "RequestEntityTooLarge")

@@ -1,8 +1,8 @@
-//! `edge_rows`: calls of sources, sinks, links, doors, clocks and spawners in memory, row by row. Its stored run is
+//! `edge_rows`: calls of sources, sinks, links, doors and clocks in memory, row by row. Its stored run is
 //! their table of cases.
 //!
 //! - `state`: the source and the sink that rows speak of. `streams`: reads and writes.
-//! - `doors`: links that are served. `outside`: the clock and the spawner.
+//! - `doors`: links that are served. `outside`: the clock, and the door that gives none.
 #![tactic(auto)]
 
 mod doors;

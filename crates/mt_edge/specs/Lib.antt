@@ -1,4 +1,3 @@
 pub mod Memory
 pub mod MemoryDoor
-pub mod Spawner
 pub mod Stream

@@ -1,10 +1,10 @@
 //! The outside: what is read from, written to and asked, as traits with a written meaning.
 //!
 //! - `source`, `sink`, `both`: streams of bytes, with counted faults.
-//! - `clock`, `door`, `spawner`: moments, links to serve, and children that run tasks.
+//! - `clock`, `door`: moments, and links to serve.
 //! - `whole`, `joined`: a write of a whole piece, and a source and a sink that lie apart as one link.
-//! - `mem_source`, `mem_sink`, `mem_link`, `mem_door`, `never_fails`, `fixed_clock`, `no_door`, `no_spawner`: the forms in memory.
-//! - `specs/Stream`, `specs/Spawner`, `specs/Memory`, `specs/MemoryDoor`: what each call does, by its answer.
+//! - `mem_source`, `mem_sink`, `mem_link`, `mem_door`, `never_fails`, `fixed_clock`, `no_door`: the forms in memory.
+//! - `specs/Stream`, `specs/Memory`, `specs/MemoryDoor`: what each call does, by its answer.
 #![tactic(auto)]
 
 mod both;
@@ -18,12 +18,9 @@ mod mem_sink;
 mod mem_source;
 mod never_fails;
 mod no_door;
-mod no_spawner;
 mod script;
 mod sink;
 mod source;
-mod spawner;
-mod task;
 mod whole;
 
 pub use both::Both;
@@ -38,9 +35,6 @@ pub use mem_source::MemSource;
 pub use mt_base::LAST_MOMENT;
 pub use never_fails::NeverFails;
 pub use no_door::NoDoor;
-pub use no_spawner::NoSpawner;
 pub use sink::{Sink, WriteStep};
 pub use source::{ReadStep, Source};
-pub use spawner::Spawner;
-pub use task::{Polled, Start, Ticket};
 pub use whole::{SinkFault, write_all};

@@ -46,7 +46,8 @@ impl Queue {
     ghost use Rattle.mt_sched.specs.PlanOfJob.{kinds_of};
     ghost use Rattle.mt_sched.specs.PlanSteps.{committed_in, ended_plan, first_plan, grown};
 
-    /// The queue of a job of these phases that was just made.
+    /// The queue of a job of these phases that was just made. It fails for want of memory, and for 2^32 phases or more,
+    /// which no job has.
     pub fn of(alloc: Global, phases: &[Phase]) -> Result<Queue, AllocError>
         ensures { IfOk result (λ q. q ≡ first_plan (kinds_of phases.now)) }
     {
