@@ -310,22 +310,30 @@ def main():
     t.say("Stops in each call of a put of two pieces behind another, and what a crash leaves: the history of before, but where the call 9")
     t.lines.append("# fails, the sync of the gate. There the gate's byte is picked: what a read gives, nothing, a 0, a 1, half of it, or all.")
     t.lines.append("# `stop LIMIT CALL PICK..`; a call that fails does nothing.")
-    for line in ("disk", "open 400000", "fail", "put /l/stor/a 5 7", "steps", "step put /l/stor/b 65537 8", "step directory /l/stor/d 9"):
-        t.row(line)
-    old = t.store
-    before = f"Ok, {old.where()}: {old.below()}"
-    opened = f"Ok, {old.where()}"
-    after = Store()
-    after.limit = 400000
-    after.put("/l/stor/a", 5, 7)
-    after.put("/l/stor/b", 65537, 8)
-    put = f"Ok, {after.where()}: {after.below()}"
-    for call in range(10):
-        for picks in ("", " whole") if call < 9 else ("", " nothing", " zeros", " ones", " half", " whole"):
-            done = "; Disk; closed; left "
-            left = put if call == 9 and picks in ("", " whole", " ones") else before
-            t.row(f"stop 400000 {call}{picks}", opened + done + left)
+    stops(t, ["put /l/stor/a 5 7"], "put /l/stor/b 65537 8", 10)
+    t.say("The same in each call of a link, of a put over what is linked, of a delete, and of a directory.")
+    stops(t, ["put /l/stor/a 5 7"], "link /l/stor/b /l/stor/a 8", 6)
+    stops(t, ["put /l/stor/a 5 7", "link /l/stor/b /l/stor/a 8"], "put /l/stor/a 3 9", 8)
+    stops(t, ["put /l/stor/a 5 7", "link /l/stor/b /l/stor/a 8"], "delete /l/stor/a 9", 6)
+    stops(t, ["put /l/stor/a 5 7"], "directory /l/stor/d 8", 6)
     print("\n".join(t.lines))
+
+
+def stops(t, before, step, calls):
+    """A session over what these commands made, stopped in each call of one more, whose last call is the sync of the gate."""
+    for line in ("disk", "open 400000", "fail", *before, "steps", f"step {step}", "step directory /l/stor/e 9"):
+        t.row(line)
+    old, after = t.store, Store()
+    after.limit = 400000
+    for line in (*before, step):
+        call, *words = line.split(" ")
+        getattr(after, call)(*words)
+    opened = f"Ok, {old.where()}"
+    kept, added = (f"Ok, {it.where()}: {it.below()}" for it in (old, after))
+    for call in range(calls):
+        for picks in ("", " whole") if call < calls - 1 else ("", " nothing", " zeros", " ones", " half", " whole"):
+            left = added if call == calls - 1 and picks in ("", " whole", " ones") else kept
+            t.row(f"stop 400000 {call}{picks}", f"{opened}; Disk; closed; left {left}")
 
 
 main()

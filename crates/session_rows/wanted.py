@@ -89,8 +89,23 @@ def record(payload):
 
 
 def put_command(name, content_type, place, length, moment=0, area=0):
-    path = struct.pack(">BH", area, 1) + struct.pack(">H", len(name)) + name
-    return struct.pack(">BQ", 1, moment) + path + struct.pack(">H", len(content_type)) + content_type + struct.pack(">QQ", place, length)
+    return struct.pack(">BQ", 1, moment) + path_of(name, area) + struct.pack(">H", len(content_type)) + content_type + struct.pack(">QQ", place, length)
+
+
+def path_of(name, area=0):
+    return struct.pack(">BH", area, 1) + struct.pack(">H", len(name)) + name
+
+
+def directory_command(name, moment=0, area=0):
+    return struct.pack(">BQ", 2, moment) + path_of(name, area)
+
+
+def delete_command(name, moment=0):
+    return struct.pack(">BQ", 4, moment) + path_of(name)
+
+
+# A job of one phase that maps `cat`.
+JOB_COMMAND = struct.pack(">BQ", 5, 0) + struct.pack(">I", 0) + b"\1" + b"\0" + struct.pack(">I", 3) + b"cat" + b"\0\0"
 
 
 def log(*payloads):
@@ -299,6 +314,13 @@ def stores(t):
         (log(put_command(b"a", b"", 0, 0, moment=253_402_300_800)), "foreign at 8"),
         (log(b"\0hello", put_command(b"a", b"", 8, 6)), "foreign at 35"),
         (log(b"\0hello", put_command(b"..", b"", 8, 5)), "foreign at 35"),
+        # A delete of nothing, a directory for the second time, one in the area of jobs, a byte too many, a job, and an end of its input.
+        (log(delete_command(b"a")), "foreign at 8"),
+        (log(directory_command(b"a"), directory_command(b"a")), f"foreign at {8 + 21 + len(directory_command(b'a'))}"),
+        (log(directory_command(b"a", area=2)), "foreign at 8"),
+        (log(directory_command(b"a") + b"\0"), "foreign at 8"),
+        (log(JOB_COMMAND), "foreign at 8"),
+        (log(struct.pack(">BQQ", 7, 0, 0)), "foreign at 8"),
     ]
     broken = hello.replace(b"hello", b"hellp")
     kept, computed = hashlib.md5(b"\0hello").hexdigest(), hashlib.md5(b"\0hellp").hexdigest()

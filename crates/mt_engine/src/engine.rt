@@ -204,6 +204,7 @@ impl Engine {
         ensures stands { Stands D.seen D.may_leave disk.new self.new.log }
         ensures told { self.new.log.closed ≡ false → is_some (D.seen disk.new) ≡ is_some (D.seen disk.old) }
         ensures disk { result ≡ Accepted.Disk → Rose (D.faults disk.old) (D.faults disk.new) }
+        ensures closed { self.old.log.closed ≡ true → result ≡ Accepted.Closed }
         ensures unchanged { result ≡ Accepted.Closed → disk.new ≡ disk.old }
         ensures memory { result ≡ Accepted.Memory → disk.new ≡ disk.old }
         ensures faults { NeverFell (D.faults disk.old) (D.faults disk.new) }

@@ -1,12 +1,17 @@
 -- The children in memory as a caller sees them.
 use Rattle.std.proofs.Common.{◌≡◌, ◌==◌, ℕ, suc, ◌<◌, Bool, true, false, cond, List, [], ◌∷◌, ◌++◌, length, get_or, refl, ap, sym, subst, ◌∙◌, arith}
 use Rattle.std.specs.Prelude.{filter, All, ◌||◌}
-use Rattle.std.specs.List.{AllByRecursion, AllZip, Contains}
+use Rattle.std.specs.List.{AllByRecursion, AllZip, Contains, list_any}
 use Rattle.std.proofs.lemmas.List.{map-append, get_or-map}
 use Rattle.std.proofs.lemmas.List.Elements.{recursion_from_All, All-from_recursion}
 use Rattle.mt_spawn.specs.Children.{Child, HasWaited, lives, without}
 use Rattle.mt_spawn.specs.Memory.{AddedAs, MemFate, child_of, children_of, is_other}
 use Rattle.mt_spawn.specs.declared.children.MemChild.{MemChild}
+
+-- one of the children has a ticket
+pub has_ticket : (t : ℕ) (cs : List MemChild) → list_any (λ c. t == c.ticket) cs ≡ lives t (children_of cs)
+has_ticket t [] = refl
+has_ticket t (c ∷ cs) = ap (λ (b : Bool). t == c.ticket || b) (has_ticket t cs)
 
 -- a child is taken out of what a caller sees
 pub children_gone : (t : ℕ) (cs ds : List MemChild) → ds ≡ filter (is_other t) cs → children_of ds ≡ without t (children_of cs)

@@ -1,7 +1,7 @@
 //! The live children of a spawner in memory.
-ghost use Rattle.std.specs.Prelude.{◌≡◌, ◌<◌, All, IfOk, Err};
+ghost use Rattle.std.specs.Prelude.{◌≡◌, ◌==◌, ◌<◌, All, IfOk, Err};
 ghost use Rattle.mt_base.specs.Counts.{NeverFell, Rose};
-ghost use Rattle.std.specs.List.{AllZip};
+ghost use Rattle.std.specs.List.{AllZip, list_any};
 ghost use Rattle.mt_spawn.specs.Children.{HasWaited};
 ghost use Rattle.mt_spawn.specs.Memory.{ReadAll, children_of};
 
@@ -72,7 +72,7 @@ pub fn read_all<S: Source>(alloc: Global, source: &mut S) -> Result<Vec<u8>, Rea
 impl Children {
     ghost use Rattle.std.specs.Prelude.{◌≡◌, ◌<◌, [], filter, length, false, IfOk, IfErr, IfSome};
     ghost use Rattle.std.specs.List.{AllZip};
-    ghost use Rattle.mt_spawn.specs.Children.{HasWaited};
+    ghost use Rattle.mt_spawn.specs.Children.{HasWaited, lives};
     ghost use Rattle.mt_spawn.specs.Memory.{AddedAs, children_of, is_other};
 
     /// No child.
@@ -90,6 +90,13 @@ impl Children {
         ensures { result ≡ length self.now.items.items }
     {
         self.items.len()
+    }
+
+    /// Whether one of a ticket lives.
+    pub fn has(&self, ticket: u64) -> bool
+        ensures { result ≡ lives ticket (children_of self.now.items.items) }
+    {
+        has_ticket(self.items.as_slice(), ticket)
     }
 
     /// Whether all tickets were given.
@@ -147,6 +154,13 @@ impl Children {
     {
         wait_in(&mut self.items);
     }
+}
+
+// Whether one of these has a ticket.
+fn has_ticket(children: &[MemChild], ticket: u64) -> bool
+    ensures { result ≡ list_any (λ c. ticket == c.ticket) children.now }
+{
+    children.iter().any(|child| ticket == child.ticket)
 }
 
 // Counts a wait in vain of each of these.

@@ -53,7 +53,9 @@ pub struct MemSpawner<W> {
 }
 
 impl<W: Work> MemSpawner<W> {
-    ghost use Rattle.std.specs.Prelude.{◌≡◌, [], None};
+    ghost use Rattle.std.specs.Prelude.{◌≡◌, [], None, is_some, length};
+    ghost use Rattle.mt_spawn.specs.Children.{lives};
+    ghost use Rattle.mt_spawn.specs.Memory.{children_of};
 
     /// A spawner without children.
     pub fn new(alloc: Global, work: W, script: Script) -> MemSpawner<W>
@@ -73,27 +75,51 @@ impl<W: Work> MemSpawner<W> {
     }
 
     /// How many children live.
-    pub fn live(&self) -> usize {
+    pub fn live(&self) -> usize
+        ensures { result ≡ length self.now.running.children.items.items }
+    {
         self.running.children.len()
     }
 
+    /// Whether a child of this ticket lives.
+    pub fn lives(&self, ticket: Ticket) -> bool
+        ensures { result ≡ lives ticket.number (children_of self.now.running.children.items.items) }
+    {
+        self.running.children.has(ticket.number)
+    }
+
+    /// Whether what an ended child left is held.
+    pub fn is_holding(&self) -> bool
+        ensures { result ≡ is_some self.now.running.held }
+    {
+        self.running.held.is_some()
+    }
+
     /// How many starts were asked for.
-    pub fn starts(&self) -> u64 {
+    pub fn starts(&self) -> u64
+        ensures { result ≡ self.now.starts }
+    {
         self.starts
     }
 
     /// How many calls have failed.
-    pub fn faults(&self) -> u64 {
+    pub fn faults(&self) -> u64
+        ensures { result ≡ self.now.faults }
+    {
         self.faults
     }
 
     /// How many waits were in vain.
-    pub fn waits(&self) -> u64 {
+    pub fn waits(&self) -> u64
+        ensures { result ≡ self.now.waits }
+    {
         self.waits
     }
 
     /// How many children lived at the ends of children, summed up.
-    pub fn company(&self) -> u64 {
+    pub fn company(&self) -> u64
+        ensures { result ≡ self.now.running.company }
+    {
         self.running.company
     }
 }

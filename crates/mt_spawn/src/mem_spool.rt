@@ -29,7 +29,7 @@ pub struct MemSpool {
 impl MemSpool {
     ghost use Rattle.std.specs.Prelude.{◌≡◌, [], true, false};
     ghost use Rattle.mt_base.specs.Counts.{Rose};
-    ghost use Rattle.mt_spawn.specs.Spools.{with_bytes};
+    ghost use Rattle.mt_spawn.specs.Spools.{has_file, with_bytes};
     ghost use Rattle.mt_spawn.specs.SpoolMemory.{IsFirst, files_of};
 
     /// No file, and room for so many bytes in all.
@@ -59,6 +59,16 @@ impl MemSpool {
         ensures { result.now ≡ self.now.files.items }
     {
         self.files.as_slice()
+    }
+
+    /// Whether a file of a number is there.
+    pub fn has(&self, number: u32) -> bool
+        ensures { result ≡ has_file number (files_of self.now.files.items) }
+    {
+        match place_of(self.files.as_slice(), number) {
+            Some(_place) => true,
+            None => false,
+        }
     }
 
     /// How many calls have failed.
