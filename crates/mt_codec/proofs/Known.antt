@@ -1,6 +1,6 @@
 -- The form of each field that commands have.
 use Rattle.std.proofs.Common.{◌≡◌, ℕ, ◌^◌, ◌<◌, ◌≤◌, Bool, true, false, cond, eqb, List, [], ◌∷◌, length, Option, Some, None, refl, sym, ap, ◌∙◌, arith}
-use Rattle.std.specs.Prelude.{◌&&◌, ◌==◌, ◌%◌, not, nat_le, nat_lt, IfSome, IsTrue, ⊤}
+use Rattle.std.specs.Prelude.{◌&&◌, ◌==◌, ◌*◌, ◌%◌, not, nat_le, nat_lt, IfSome, IsTrue, ⊤}
 use Rattle.std.specs.Int.{w16, w32}
 use Rattle.std.specs.List.{AllByRecursion, list_any}
 use Rattle.std.specs.Str.{is_utf8}
@@ -21,7 +21,7 @@ use Rattle.mt_codec.specs.Fields.{text_spelling, long_text_spelling, path_spelli
 use Rattle.mt_codec.specs.Spelling.{byte_spelling, field_spelling, metadata_spelling, flag_number, FitsBody, FitsText, undigested_body}
 use Rattle.mt_types.specs.Limits.{FitsField, FitsMetadata}
 use Rattle.mt_codec.specs.Reading.{Reader, tested, named, byte_at, number_at, sized}
-use Rattle.mt_codec.specs.Readers.{is_few_fields, moment_at, job_at, component_at, area_numbered, is_short, path_of, path_at, texts, content_type_at, body_of, body_at, durability_at, field_of, field_at, metadata_at, flag_numbered}
+use Rattle.mt_codec.specs.Readers.{is_few_fields, is_few_parts, moment_at, job_at, component_at, area_numbered, is_short, path_of, path_at, texts, content_type_at, body_of, body_at, durability_at, field_of, field_at, metadata_at, flag_numbered}
 use Rattle.mt_codec.proofs.Forms.{IsForm, same, said, both_form, made_form, shown_form, tested_form, named_form, byte_form, two_form, four_form, eight_form, sized_form, list_form, optional_form}
 use Rattle.mt_types.proofs.Metadata.{each_small}
 
@@ -122,17 +122,33 @@ pub parts_short : (p : AccountPath) → IsPath p → length p.parts < 2 ^ 16
 parts_short p is =
     omega (arith, is.short, names-slashed p.parts, length-append (slash ∷ area_name p.area) (slashed p.parts))
 
+-- each component has a byte and a slash
+names_filled : (names : List (List ℕ)) → AllByRecursion IsComponent names → 2 * length names ≤ length (slashed names)
+names_filled [] all = omega arith
+names_filled (name ∷ names) all =
+    let some : 1 ≤ length name = all.0.some in
+    omega (arith, some, length-append (slash ∷ name) (slashed names), names_filled names all.1)
+
+parts_few : (p : AccountPath) → IsPath p → IsTrue (is_few_parts (length p.parts))
+parts_few p is =
+    let filled = names_filled p.parts (recursion_from_All IsComponent p.parts is.components) in
+    le-leb (2 * length p.parts) LONGEST_PATH (omega (arith, is.short, filled, length-append (slash ∷ area_name p.area) (slashed p.parts)))
+
+-- two bytes may say it
+few_parts : (n : ℕ) → is_few_parts n ≡ true → n < 2 ^ 16
+few_parts n h = omega (arith, leb-true (2 * n) LONGEST_PATH h)
+
 pub path_form : IsForm path_spelling IsPath same path_at
 unfolding path_spelling path_at
 path_form =
     said
     (tested_form
-    (made_form (both_form (named_form byte_form area_numbered area_number area_named numbered_area) (list_form two_form component_form))
-    path_of (λ p. (p.area, p.parts)) path_spelling (λ p. (area_number p.area < 256) × ((length p.parts < 2 ^ 16) × AllByRecursion IsComponent p.parts)) same
+    (made_form (both_form (named_form byte_form area_numbered area_number area_named numbered_area) (list_form (several_form is_few_parts few_parts) component_form))
+    path_of (λ p. (p.area, p.parts)) path_spelling (λ p. (area_number p.area < 256) × (IsTrue (is_few_parts (length p.parts)) × AllByRecursion IsComponent p.parts)) same
     (λ p. refl) (λ p. refl) (λ p h. h) (λ p h. h) (λ p. refl))
     is_short (λ p. refl))
     (λ p h. record { components = All-from_recursion IsComponent p.parts h.0.1.1; short = leb-true (length (local_text p)) LONGEST_PATH h.1 })
-    (λ p h. ((area_below p.area, (parts_short p h, recursion_from_All IsComponent p.parts h.components)), le-leb (length (local_text p)) LONGEST_PATH h.short))
+    (λ p h. ((area_below p.area, (parts_few p h, recursion_from_All IsComponent p.parts h.components)), le-leb (length (local_text p)) LONGEST_PATH h.short))
     (λ p. refl)
 
 pub body_form : IsForm body_spelling (FitsBody true) undigested_body body_at

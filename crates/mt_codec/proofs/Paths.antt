@@ -7,8 +7,8 @@ use Rattle.std.proofs.lemmas.List.Elements.{All-from_recursion}
 use Rattle.mt_path.specs.AccountPath.{AccountPath, IsComponent, IsPath, is_component, local_text}
 use Rattle.mt_path.specs.declared.limits.TheConstants.{LONGEST_PATH}
 use Rattle.mt_path.proofs.Components.{IsComponent-from_test}
-use Rattle.mt_codec.specs.Reading.{◌>>=◌, Reader, number_at, sized, times, counted}
-use Rattle.mt_codec.specs.Readers.{component_at, is_short}
+use Rattle.mt_codec.specs.Reading.{◌>>=◌, Reader, number_at, sized, tested, times, counted}
+use Rattle.mt_codec.specs.Readers.{component_at, is_few_parts, is_short}
 use Rattle.std.proofs.lemmas.Option.{some_pair_parts}
 use Rattle.mt_codec.proofs.Options.{bind_some, guard_some}
 
@@ -28,9 +28,9 @@ component_kept bytes x rest e =
     let g = guard_some (is_component a.0.0) a.0 (x, rest) a.2 in
     IsComponent-from_test x (ap (λ y. is_component y.0) (sym g.1) ∙ g.0)
 
-pub IsPath-from_read : (p : AccountPath) (bytes rest : List ℕ) → counted (number_at w16) component_at bytes ≡ Some (p.parts, rest) → is_short p ≡ true → IsPath p
+pub IsPath-from_read : (p : AccountPath) (bytes rest : List ℕ) → counted (tested is_few_parts (number_at w16)) component_at bytes ≡ Some (p.parts, rest) → is_short p ≡ true → IsPath p
 IsPath-from_read p bytes rest e short =
-    let a = bind_some (number_at w16 bytes) (λ n. times component_at n.0 n.1) (p.parts, rest) e in
+    let a = bind_some (tested is_few_parts (number_at w16) bytes) (λ n. times component_at n.0 n.1) (p.parts, rest) e in
     record {
       components = All-from_recursion IsComponent p.parts (times_all component_at IsComponent component_kept a.0.0 a.0.1 p.parts rest a.2);
       short = leb-true (length (local_text p)) LONGEST_PATH short;

@@ -1,5 +1,5 @@
 -- Reading each field and each command, by the words of `Reading`: the private side of `decode`.
-use Rattle.std.specs.Prelude.{ℕ, Bool, true, false, ◌&&◌, ◌==◌, nat_le, List, [], ◌∷◌, length, replicate, Option, Some, None, if◌then◌else◌}
+use Rattle.std.specs.Prelude.{ℕ, ◌*◌, Bool, true, false, ◌&&◌, ◌==◌, nat_le, List, [], ◌∷◌, length, replicate, Option, Some, None, if◌then◌else◌}
 use Rattle.std.specs.Int.{w16, w32, w64}
 use Rattle.std.specs.Str.{is_utf8}
 use Rattle.mt_path.specs.AccountPath.{AccountPath, is_component, local_text}
@@ -42,6 +42,10 @@ is_few_records n = nat_le n MOST_RECORDS
 abbrev pub is_short_stderr : ℕ → Bool
 is_short_stderr n = nat_le n LONGEST_STDERR
 
+-- each component has a byte and a slash
+abbrev pub is_few_parts : ℕ → Bool
+is_few_parts n = nat_le (2 * n) LONGEST_PATH
+
 abbrev pub moment_at : Reader ℕ
 moment_at = tested is_moment (number_at w64)
 
@@ -64,7 +68,7 @@ abbrev pub path_of : Area × List (List ℕ) → AccountPath
 path_of p = record { area = p.0; parts = p.1 }
 
 unfoldable pub path_at : Reader AccountPath
-path_at = tested is_short (made path_of (named area_numbered byte_at & counted (number_at w16) component_at))
+path_at = tested is_short (made path_of (named area_numbered byte_at & counted (tested is_few_parts (number_at w16)) component_at))
 
 -- bytes of UTF-8 that pass a test
 abbrev pub texts : (List ℕ → Bool) → Reader (List ℕ) → Reader (List ℕ)

@@ -5,7 +5,7 @@ ghost use Rattle.std.specs.Str.{is_utf8};
 ghost use Rattle.mt_types.specs.Limits.{is_command_line, is_job_name, is_line_text, is_metadata_name, is_plain_text};
 ghost use Rattle.mt_codec.specs.Reading.{Gives, Makes, Shows, byte_at, counted, named, number_at, optional, sized, tested};
 ghost use Rattle.mt_path.specs.AccountPath.{slashed};
-ghost use Rattle.mt_codec.specs.Readers.{area_numbered, is_short, path_of, body_at, command_line_at, component_at, content_type_at, field_at, metadata_at, path_at, texts};
+ghost use Rattle.mt_codec.specs.Readers.{area_numbered, is_few_parts, is_short, path_of, body_at, command_line_at, component_at, content_type_at, field_at, metadata_at, path_at, texts};
 
 use crate::error::DecodeError;
 use crate::numbers::{byte, eight, long_piece, short_piece, two};
@@ -20,6 +20,9 @@ use mt_types::{
 };
 use std::alloc::{AllocError, Global};
 use std::str;
+
+/// A path has no more components than this: each has a byte and a slash.
+const MOST_PARTS: usize = LONGEST_PATH / 2;
 
 // A copy of bytes that are UTF-8.
 fn text_of(alloc: Global, piece: &[u8]) -> Result<Text, DecodeError>
@@ -151,12 +154,15 @@ impl Spelled for Bytes {
     }
 }
 
-// The components of a path.
+// The components of a path. Where it tells of more than a path may have, none is read.
 fn components(alloc: Global, cursor: &mut Cursor) -> Result<Vec<Bytes>, DecodeError>
-    ensures { Shows (λ parts. parts.items) result cursor.new (counted (number_at w16) component_at cursor.old) }
+    ensures { Shows (λ parts. parts.items) result cursor.new (counted (tested is_few_parts (number_at w16)) component_at cursor.old) }
 {
-    let n = two(cursor)?;
-    let parts: Sequence<Bytes> = times(alloc, n as usize, cursor)?;
+    let n = two(cursor)? as usize;
+    if n > MOST_PARTS {
+        return Err(DecodeError::NotACommand);
+    }
+    let parts: Sequence<Bytes> = times(alloc, n, cursor)?;
     Ok(parts.into_vec())
 }
 

@@ -1,4 +1,5 @@
 pub mod Bodies
+pub mod BodyPieces
 pub mod BodyReadings
 pub mod BodySteps
 pub mod ChunkLines

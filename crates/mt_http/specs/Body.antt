@@ -90,6 +90,20 @@ next_at (at.Over ending) s b = s
 abbrev pub next_state : BodyState → ℕ → BodyState
 next_state s b = next_at s.stage s b
 
+-- after more bytes of the source
+abbrev pub after_bytes : BodyState → List ℕ → BodyState
+after_bytes s [] = s
+after_bytes s (b ∷ bytes) = after_bytes (next_state s b) bytes
+
+-- so many bytes, none of them an LF, go on with a line of the chunks or of the trailer
+abbrev pub line_room_at : Stage → ℕ → ℕ
+line_room_at at.ChunkLine n = line_limit - n
+line_room_at (at.Trailer m line) n = trailer_limit - m
+line_room_at _ n = 0
+
+abbrev pub line_room : BodyState → ℕ
+line_room s = line_room_at s.stage (length s.line)
+
 -- a byte of the source is one of the body's
 abbrev pub is_data : Stage → Bool
 is_data (at.Counted n) = true

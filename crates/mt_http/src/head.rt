@@ -13,8 +13,8 @@ const HEAD_LIMIT: usize = 65_536;
 /// The room that is made at first for a head, in bytes.
 const FIRST_ROOM: usize = 1_024;
 
-/// A head is read by pieces of at most so many bytes, each within a line.
-const PIECE: usize = 256;
+/// Lines are read by pieces of at most so many bytes, each within a line.
+pub(crate) const PIECE: usize = 256;
 
 /// What one more byte of a source was.
 #[derive(Clone, Copy)]

@@ -1,10 +1,11 @@
 //! How far a body has been read: what the next byte of its source is.
-ghost use Rattle.std.specs.Prelude.{◌≡◌, ◌≤◌, IsTrue, is_some, false};
-ghost use Rattle.mt_http.specs.Body.{after_data, after_line, counted, data_left, ended, first_state, in_chunk, is_data, is_sound, line_byte, next_state, over, trailer_byte, trailer_line};
+ghost use Rattle.std.specs.Prelude.{◌≡◌, ◌≢◌, ◌<◌, ◌≤◌, ◌+◌, ℕ, IsTrue, None, false, get_or, is_some, length, min};
+ghost use Rattle.mt_http.specs.Body.{after_bytes, after_data, after_line, counted, data_left, ended, first_state, in_chunk, is_data, is_sound, line_byte, line_room, next_state, over, trailer_byte, trailer_line};
 ghost use Rattle.mt_http.specs.Chunk.{chunk_line_size};
 
 use crate::chunk::read_chunk_line;
 use crate::framing::Framing;
+use crate::head::PIECE;
 use crate::message::Ending;
 use std::marker::Model;
 
@@ -217,6 +218,18 @@ impl Framer {
         self.stage = Stage::Trailer(count + 1, next);
     }
 
+    /// How many bytes may be read at once within a line, so that each of them comes where none of the body's does.
+    pub(crate) fn room(&self) -> usize
+        ensures { result ≡ min 256 (line_room self.now + 1) }
+    {
+        let most = match self.stage {
+            Stage::ChunkLine => LINE_LIMIT - self.filled,
+            Stage::Trailer(count, _) => TRAILER_LIMIT - count,
+            _ => 0,
+        };
+        PIECE.min(most + 1)
+    }
+
     /// A byte of the source that is none of the body's.
     pub(crate) fn take_byte(&mut self, byte: u8)
         requires { is_data self.old.stage ≡ false }
@@ -229,6 +242,18 @@ impl Framer {
             Stage::Trailer(count, line) => self.take_trailer_byte(count, line, byte),
             Stage::Over(_) => {}
             _ => self.end(Ending::Bad),
+        }
+    }
+    /// Bytes of the source, of which none but the last is an LF.
+    pub(crate) fn take_piece(&mut self, piece: &[u8])
+        requires other { is_data self.old.stage ≡ false }
+        requires open_yet { ended self.old.stage ≡ None }
+        requires few { length piece.now ≤ line_room self.old + 1 }
+        requires line { (k : ℕ) → k + 1 < length piece.now → get_or piece.now k 0 ≢ 10 }
+        ensures { self.new ≡ after_bytes self.old piece.now }
+    {
+        for byte in piece {
+            self.take_byte(*byte);
         }
     }
 }

@@ -5,7 +5,7 @@ ghost use Rattle.mt_http.specs.Body.{data_left, ended, first_state, most_left};
 ghost use Rattle.mt_http.specs.BodyReading.{Finished, IsShorter, Reaches, Streams, after_body, body_left};
 
 use crate::framing::Framing;
-use crate::head::{ByteRead, read_byte};
+use crate::head::PIECE;
 use crate::message::{Ending, Head};
 use crate::stage::{Framer, Stage};
 use mt_edge::{ReadStep, Source};
@@ -24,25 +24,28 @@ pub(crate) enum Reached {
     Failed,
 }
 
-// Reads up to the next byte of a body.
+// Reads up to the next byte of a body, a line at a time.
 fn reach_data<S: Source>(source: &mut S, framer: &mut Framer) -> Reached
     ensures reached { Reaches framer.old (S.left source.old) (S.read_faults source.old)
         result framer.new (S.left source.new) (S.read_faults source.new) }
     ensures most { most_left framer.new ≤ most_left framer.old }
     ensures stays { S.source_stays source.old source.new }
 {
+    let mut piece = [0; PIECE];
     loop {
         match framer.stage() {
             Stage::Counted(left) | Stage::Chunk(left) => return Reached::Data(left),
             Stage::Over(_) => return Reached::Over,
-            _ => match read_byte(source) {
-                ByteRead::Byte(byte) => framer.take_byte(byte),
-                ByteRead::End => {
-                    framer.cut();
-                    return Reached::Over;
-                }
-                ByteRead::Fault => return Reached::Failed,
-            },
+            _ => {}
+        }
+        let into = &mut piece[..framer.room()];
+        match source.read_line(into) {
+            ReadStep::Took(count) => framer.take_piece(&into[..count]),
+            ReadStep::End => {
+                framer.cut();
+                return Reached::Over;
+            }
+            ReadStep::Failed => return Reached::Failed,
         }
     }
 }
