@@ -13,7 +13,6 @@ use Rattle.mt_types.specs.declared.job.Job.{Job}
 use Rattle.mt_types.specs.declared.job.TraceEntry.{TraceEntry}
 use Rattle.mt_types.specs.declared.task.Fate.{Fate}
 use Rattle.mt_types.specs.WellMade.{IsWellMade}
-use Rattle.mt_types.specs.Kinds.{OnRows, kind_of}
 use Rattle.mt_model.specs.Bodies.{OfState, resolved_with, rows_with, state_with}
 use Rattle.mt_model.specs.CommandStep.{allowed, replay, step}
 use Rattle.mt_model.specs.Feed.{feed}
@@ -24,7 +23,7 @@ use Rattle.mt_model.specs.Listing.{listing, result_set_size}
 use Rattle.mt_model.specs.Meaning.{PhasesMean}
 use Rattle.mt_model.specs.Resolve.{Committing, resolve}
 use Rattle.mt_model.specs.Rows.{Rows}
-use Rattle.mt_model.specs.State.{State}
+use Rattle.mt_model.specs.State.{State, first_state}
 use Rattle.mt_model.specs.Tasks.{holds_place, input_of, ready, run_of, share, waits_finish}
 
 -- what is read for a body
@@ -51,9 +50,13 @@ AllowedOfHeld = (read : Reading) (s : State Body) (c : Command Body) → OfState
 abbrev pub ReplayGoesOn : Type 0
 ReplayGoesOn = (s : State Body) (cs ds : List (Command Body)) → replay s (cs ++ ds) ≡ replay (replay s cs) ds
 
--- the limits are kept by each command on rows that says what is within them
-abbrev pub RowsKeepLimits : Type 0
-RowsKeepLimits = (s : State Body) (c : Command Body) → kind_of c ≡ OnRows → KeepsLimits s → SaysWithin c → KeepsLimits (step s c)
+-- the limits are kept by each command that says what is within them
+abbrev pub LimitsAreKept : Type 0
+LimitsAreKept = (s : State Body) (c : Command Body) → KeepsLimits s → SaysWithin c → KeepsLimits (step s c)
+
+-- the first state is within them
+abbrev pub FirstIsWithin : Type 0
+FirstIsWithin = let s : State Body = first_state in KeepsLimits s
 
 -- a page has the same rows
 abbrev pub ListingIsRead : Type 0

@@ -18,7 +18,7 @@ ghost use Rattle.mt_model.specs.CommandStep.{replay};
 ghost use Rattle.mt_model.specs.Finished.{FinishedJobsMean};
 ghost use Rattle.mt_model.specs.Honest.{Bytes, Honest, HonestFrom};
 ghost use Rattle.mt_model.specs.State.{State, first_state};
-ghost use Rattle.mt_model.specs.Laws.{ReplayIsRead, AllowedIsRead, ListingIsRead, SizeIsRead, FeedIsRead, ShareIsRead, ReadyIsRead, FinishIsRead, RunIsRead, InputIsRead, ResolveIsRead, MeaningIsRead, StatesAgree, KeepsLawful, AllowedOfHeld, HistoriesAreLawful, IsSharedOnce, ReplayGoesOn, RowsKeepLimits};
+ghost use Rattle.mt_model.specs.Laws.{ReplayIsRead, AllowedIsRead, ListingIsRead, SizeIsRead, FeedIsRead, ShareIsRead, ReadyIsRead, FinishIsRead, RunIsRead, InputIsRead, ResolveIsRead, MeaningIsRead, StatesAgree, KeepsLawful, AllowedOfHeld, HistoriesAreLawful, IsSharedOnce, ReplayGoesOn, LimitsAreKept, FirstIsWithin};
 
 /// A history over references does what the same history over bytes does, and is refused for the same causes.
 pub fn history_is_read()
@@ -60,9 +60,10 @@ pub fn states_agree()
     ensures { StatesAgree }
 {}
 
-/// A command on rows that says what is within the limits keeps a state within them.
-pub fn rows_keep_limits()
-    ensures { RowsKeepLimits }
+/// The first state is within the limits of values, and each command that says what is within them keeps it so.
+pub fn commands_keep_limits()
+    ensures first { FirstIsWithin }
+    ensures step { LimitsAreKept }
 {}
 
 /// The first state is lawful.
