@@ -30,7 +30,7 @@ module _ {X : Type 0} (P : X → Type 0) where
   pub changed : (test : X → Bool) (f : X → X) → ((x : X) → P x → P (f x)) → (xs : List X) → AllByRecursion P xs → AllByRecursion P (map (λ x. cond (test x) (f x) x) xs)
   changed test f keep [] all = tt
   changed test f keep (x ∷ xs) all =
-      let here : P (cond (test x) (f x) x) = elim (test x) as (λ b. P (cond b (f x) x)) [ | true ↦ keep x all.0 | false ↦ all.0 ] in
+      let here : P (cond (test x) (f x) x) = elim (test x) as (λ b. P (cond b (f x) x)) [ true ↦ keep x all.0 | false ↦ all.0 ] in
       (here, changed test f keep xs all.1)
 
   pub first_found : (test : X → Bool) (xs : List X) (x : X) → AllByRecursion P xs → find test xs ≡ Some x → P x
@@ -62,9 +62,10 @@ module _ {B : Type 0} (P : B → Type 0) (Q : Entry B → Type 0) (held : (o : O
       parents ps (with_directory c.moment rows p) here
 
   kept_taken : (place : AccountPath) (body : B) (t : Taken B) → P body → IsTaken t → IsTaken (kept c place body t)
-  kept_taken place body t is all =
-      (inserted Q path_cmp (with_parents t.rows place c.moment) place (entry.Object (task_object (next_number c t) body c.moment)) (parents (paths_above place) t.rows all.0) (made (next_number c t) body is),
-      all.1)
+  kept_taken place body t is all = (
+    inserted Q path_cmp (with_parents t.rows place c.moment) place (entry.Object (task_object (next_number c t) body c.moment)) (parents (paths_above place) t.rows all.0) (made (next_number c t) body is),
+    all.1,
+  )
 
   given : (name : AccountPath) (body : B) (reducer : Option ℕ) (t : Taken B) → P body → IsTaken t → IsTaken (with_output c name body reducer t)
   given name body reducer t is all = (all.0, pushed (λ (i : Item B). P i.body) t.items (record { name = name; root = c.root; body = body; reducer = reducer }) all.1 is)

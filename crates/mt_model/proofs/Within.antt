@@ -1,19 +1,17 @@
 -- Each command that says what is within the limits keeps the values of a state within them.
-use Rattle.std.proofs.Common.{◌≡◌, ℕ, ◌+◌, ◌≤◌, ◌==◌, Bool, true, false, List, [], ◌∷◌, Option, Some, None, refl, arith}
-use Rattle.std.specs.Prelude.{Result, Ok, Err, IsTrue, ⊤, length}
-use Rattle.std.specs.List.{AllByRecursion, fold}
+use Rattle.std.proofs.Common.{◌≡◌, ℕ, ◌==◌, Bool, true, false, List, [], ◌∷◌, Option, Some, None, refl, arith}
+use Rattle.std.specs.Prelude.{Result, Ok, Err, IsTrue, ⊤}
+use Rattle.std.specs.List.{AllByRecursion}
 use Rattle.mt_path.specs.AccountPath.{AccountPath}
 use Rattle.mt_path.specs.PathOrder.{path_cmp}
 use Rattle.mt_types.specs.Kinds.{OnRows, kind_of}
 use Rattle.mt_types.specs.Limits.{FitsMetadata, is_content_type, is_plain_text}
-use Rattle.mt_types.specs.declared.command.Archive.{Archive}
 use Rattle.mt_types.specs.declared.command.Command.{Command}
 use Rattle.mt_types.specs.declared.command.Command.TheVariants.{Put, MakeDirectory, Link, Delete, NewJob, AddInputs, EndInput, Commit, Finish, Cancel, Close, NewUpload, PutPart, CommitUpload, AbortUpload}
 use Rattle.mt_types.specs.declared.document.InputLine.{InputLine}
 use Rattle.mt_types.specs.declared.document.InputLine.TheVariants.{Named, Other}
 use Rattle.mt_types.specs.declared.job.Job.{Job}
 use Rattle.mt_types.specs.declared.job.TraceEntry.{TraceEntry}
-use Rattle.mt_types.specs.declared.limits.TheConstants.{LONGEST_STDERR, MOST_METADATA}
 use Rattle.mt_types.specs.declared.object.Entry.TheVariants as entry
 use Rattle.mt_types.specs.declared.object.Object.{Object}
 use Rattle.mt_types.specs.declared.task.Fate.{Fate}
@@ -30,8 +28,8 @@ use Rattle.mt_model.specs.JobSteps.{archive_bodies, archive_names, commit, done_
 use Rattle.mt_model.specs.Keeping.{IsEntry, IsJob, IsLine, IsMoment, IsOutcome, IsSaid, IsSaidFate, IsUpload, KeepsLimits, SaysWithin}
 use Rattle.mt_model.specs.Names.{job_folder, job_stor, number_at}
 use Rattle.mt_model.specs.Resolve.{Committing, Resolved, Taken, resolve, resolved, take_records, task_content_type}
-use Rattle.mt_model.specs.Rows.{Rows, first_rows, object_at, with_row}
-use Rattle.mt_model.specs.State.{State, first_state, upload_at, with_upload, job_at, with_job}
+use Rattle.mt_model.specs.Rows.{Rows, object_at, with_row}
+use Rattle.mt_model.specs.State.{State, first_state, upload_at, job_at, with_job}
 use Rattle.mt_model.specs.UploadSteps.{commit_upload, ended_as, new_upload, upload_object, with_part}
 use Rattle.mt_model.proofs.EachStep.{archive_keeps, changed, first_found, pushed, resolve_keeps}
 use Rattle.mt_model.proofs.Keeping.{inserted, step_within}
@@ -153,7 +151,7 @@ module _ {B : Type 0} where
       let n : ℕ = number_at s.count 0 in
       record {
         rows = inserted IsEntry path_cmp (with_row s.rows (job_folder n) (entry.Directory moment)) (job_stor n) (entry.Directory moment)
-          (inserted IsEntry path_cmp s.rows (job_folder n) (entry.Directory moment) k.rows is.0) is.0;
+            (inserted IsEntry path_cmp s.rows (job_folder n) (entry.Directory moment) k.rows is.0) is.0;
         jobs = pushed IsJob s.jobs (new_job s.rows n document moment) k.jobs (record { created = is.0; done = tt; document = is.1; missing = tt; outcomes = tt });
         uploads = k.uploads;
       }
@@ -164,7 +162,7 @@ module _ {B : Type 0} where
   change_within s (Cancel job moment) k is = job_within s job (done_at moment true) (done_within moment true is) k
   change_within s (Close job cancelled archive moment) k is = record {
     rows = archive_keeps Any (λ t. IsTrue (is_content_type t)) IsEntry moment (λ number t body typed any. said t moment typed is) 0 s.rows job s.count archive_names (archive_bodies archive)
-      archive_types (any_bodies (archive_bodies archive)) k.rows;
+        archive_types (any_bodies (archive_bodies archive)) k.rows;
     jobs = changed IsJob (λ j. j.number == job) (done_at moment cancelled) (done_within moment cancelled is) s.jobs k.jobs;
     uploads = k.uploads;
   }
@@ -177,7 +175,7 @@ module _ {B : Type 0} where
     rows = k.rows;
     jobs = k.jobs;
     uploads = changed IsUpload (λ u. u.number == upload) (λ u. record u { parts = with_part (record { index = index; number = number_at s.count 0; body = body }) u.parts })
-      (λ u i. record { content_type = i.content_type; moment = i.moment }) s.uploads k.uploads;
+        (λ u i. record { content_type = i.content_type; moment = i.moment }) s.uploads k.uploads;
   }
   change_within s (CommitUpload upload parts body moment) k is = upload_within s upload (upload_at s.uploads upload) refl body moment k is
   change_within s (AbortUpload upload moment) k is = record {

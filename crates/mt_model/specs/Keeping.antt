@@ -1,23 +1,10 @@
 -- The limits that the values of a state keep, so that each can be told and written.
 use Rattle.std.specs.Prelude.{ℕ, ◌<◌, ◌≤◌, ◌^◌, IsTrue, ⊤, List, length, Option, IfSome}
 use Rattle.std.specs.List.{AllByRecursion}
-use Rattle.mt_types.specs.Limits.{FitsMetadata, is_command_line, is_content_type, is_durability, is_job_name, is_line_text, is_moment}
-use Rattle.mt_types.specs.declared.command.Command.{Command}
-use Rattle.mt_types.specs.declared.command.Command.TheVariants.{Put, MakeDirectory, Link, Delete, NewJob, AddInputs, EndInput, Commit, Finish, Cancel, Close, NewUpload, PutPart, CommitUpload, AbortUpload}
-use Rattle.mt_types.specs.declared.document.InputLine.{InputLine}
-use Rattle.mt_types.specs.declared.document.InputLine.TheVariants.{Named, Other}
-use Rattle.mt_types.specs.declared.document.JobDocument.{JobDocument}
-use Rattle.mt_types.specs.declared.document.Phase.{Phase}
-use Rattle.mt_types.specs.declared.job.Job.{Job}
-use Rattle.mt_types.specs.declared.job.Outcome.{Outcome}
+use Rattle.mt_model.specs.Types.{AddInputs, Cancel, Close, Command, Commit, CommitUpload, Entry, Fate, Field, Finish, FitsMetadata, InputLine, Job, JobDocument, LONGEST_STDERR, Link, MakeDirectory, Named, NewJob, NewUpload, Other, Outcome, Phase, Put, Upload, is_command_line, is_content_type, is_durability, is_job_name, is_line_text, is_moment}
 use Rattle.mt_types.specs.declared.job.Outcome.TheVariants as outcome
-use Rattle.mt_types.specs.declared.limits.TheConstants.{LONGEST_STDERR}
-use Rattle.mt_types.specs.declared.object.Entry.{Entry}
 use Rattle.mt_types.specs.declared.object.Entry.TheVariants as entry
-use Rattle.mt_types.specs.declared.object.Field.{Field}
-use Rattle.mt_types.specs.declared.task.Fate.{Fate}
 use Rattle.mt_types.specs.declared.task.Fate.TheVariants as fate
-use Rattle.mt_types.specs.declared.upload.Upload.{Upload}
 use Rattle.mt_model.specs.State.{State}
 
 -- seconds up to the end of the year 9999
@@ -86,15 +73,12 @@ module _ {B : Type 0} where
   SaysWithin (Put path content_type body durability metadata moment) = IsSaid content_type durability metadata moment
   SaysWithin (MakeDirectory path moment) = IsMoment moment
   SaysWithin (Link path source moment) = IsMoment moment
-  SaysWithin (Delete path moment) = ⊤
   SaysWithin (NewJob document moment) = IsMoment moment × IsSaidDocument document
   SaysWithin (AddInputs job lines moment) = AllByRecursion IsLine lines
-  SaysWithin (EndInput job moment) = ⊤
   SaysWithin (Commit job phase place fate moment) = IsMoment moment × IsSaidFate fate
   SaysWithin (Finish job moment) = IsMoment moment
   SaysWithin (Cancel job moment) = IsMoment moment
   SaysWithin (Close job cancelled archive moment) = IsMoment moment
   SaysWithin (NewUpload path content_type moment) = IsTrue (is_content_type content_type) × IsMoment moment
-  SaysWithin (PutPart upload index body moment) = ⊤
   SaysWithin (CommitUpload upload parts body moment) = IsMoment moment
-  SaysWithin (AbortUpload upload moment) = ⊤
+  SaysWithin other = ⊤

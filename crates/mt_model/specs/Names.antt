@@ -3,11 +3,8 @@ use Rattle.std.specs.Prelude.{ℕ, ◌+◌, ◌*◌, ◌-◌, Bool, true, false,
 use Rattle.std.specs.Fmt.{decimal}
 use Rattle.std.specs.List.{range_with_len}
 use Rattle.mt_ident.specs.Identifiers.{identifier_text, identifier_number}
-use Rattle.mt_path.specs.AccountPath.{AccountPath}
-use Rattle.mt_path.specs.declared.area.Area.{Area}
-use Rattle.mt_path.specs.declared.area.Area.TheVariants.{Stor, Public, Jobs}
+use Rattle.mt_model.specs.Types.{AccountPath, Area, Jobs, NUMBERS_A_COMMAND, Public, Stor}
 use Rattle.mt_model.specs.Limits.{longest_root}
-use Rattle.mt_types.specs.declared.limits.TheConstants.{NUMBERS_A_COMMAND}
 use Rattle.mt_model.specs.Listing.{name_of}
 
 -- the number of what a command makes: its position, and an index within the command
