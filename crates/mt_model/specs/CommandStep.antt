@@ -23,7 +23,7 @@ module _ {B : Type 0} where
   linked rows p None moment = rows
   linked rows p (Some object) moment = with_row rows p (entry.Object (record object { mtime = moment }))
 
-  -- why a command is refused, if it is: by the size of a body
+  -- the refusal of a command, or none where it is allowed; by the size of a body
   unfoldable pub allowed : (B → ℕ) → State B → Command B → Option Refusal
   allowed size s (Put path content_type body durability metadata moment) = outside_jobs path (put_refusal s.rows path)
   allowed size s (MakeDirectory path moment) = outside_jobs path (make_directory_refusal s.rows path)

@@ -1,4 +1,4 @@
--- What holds of every state that allowed commands reach.
+-- What holds of every state that well made, allowed commands reach.
 use Rattle.std.specs.Prelude.{◌≡◌, ℕ, ◌-◌, ◌*◌, ◌%◌, ◌==◌, ◌<◌, ◌≤◌, Bool, true, false, not, ◌&&◌, ◌||◌, List, [], ◌∷◌, map, length, drop, bytes_eq, codes, All, Option, Some, None, IsSome, is_some}
 use Rattle.std.specs.List.{find, list_all, list_any}
 use Rattle.std.specs.List.Sorted.{IsStrictlySortedBy}

@@ -1,4 +1,4 @@
--- What holds of the trace of every job.
+-- What holds of the trace of every job of a lawful state.
 use Rattle.std.specs.Prelude.{◌≡◌, ℕ, true, false, map, take, Some, IsSome}
 use Rattle.std.specs.List.{slice_get}
 use Rattle.std.specs.List.Sorted.{IsStrictlySortedBy}

@@ -221,17 +221,10 @@ out_of (TooLarge total) = []
 abbrev pub judged : Raw → Fate Bytes
 judged raw = wrote (out_of raw.made)
 
--- the job that the second command makes, after a history; a job that is nothing, where there is none
+-- a job that is nothing
+abbrev pub no_job : Job Bytes
+no_job = record { number = 0; document = record { name = []; phases = [] }; assets = []; inputs = []; missing = []; ended = false; cancelled = false; created = 0; done = None; trace = [] }
+
+-- the job that the second command makes, after a history
 abbrev pub map_job_after : List (Command Bytes) → Job Bytes
-map_job_after h = unwrap_or (job_at (after h).jobs 0x1000) (record {
-  number = 0;
-  document = record { name = []; phases = [] };
-  assets = [];
-  inputs = [];
-  missing = [];
-  ended = false;
-  cancelled = false;
-  created = 0;
-  done = None;
-  trace = [];
-})
+map_job_after h = unwrap_or (job_at (after h).jobs 0x1000) no_job
