@@ -155,7 +155,8 @@ pub fn honest_map_job()
 
 /// A job that is closed leaves five objects, numbered in the order of their names; its folder has six children.
 pub fn closed_job()
-    ensures numbers { map (number_in (after closed)) (map (λ n. in_folder (n ∷ [])) (codes "err.txt" ∷ codes "job.json" ∷ codes "out.txt" ∷ [])) ≡ Some 0x6000 ∷ Some 0x6003 ∷ Some 0x6004 ∷ [] }
+    ensures numbers { map (number_in (after closed)) (map (λ n. in_folder (n ∷ [])) (codes "err.txt" ∷ codes "fail.txt" ∷ codes "in.txt" ∷ codes "job.json" ∷ codes "out.txt" ∷ []))
+        ≡ Some 0x6000 ∷ Some 0x6001 ∷ Some 0x6002 ∷ Some 0x6003 ∷ Some 0x6004 ∷ [] }
     ensures bodies { map (body_in (after closed)) (map (λ n. in_folder (n ∷ [])) (codes "err.txt" ∷ codes "fail.txt" ∷ codes "in.txt" ∷ codes "job.json" ∷ codes "out.txt" ∷ []))
         ≡ Some (codes "e") ∷ Some (codes "f") ∷ Some (codes "i") ∷ Some (codes "s") ∷ Some (codes "o") ∷ [] }
     ensures types { map (type_in (after closed)) (map (λ n. in_folder (n ∷ [])) (codes "err.txt" ∷ codes "fail.txt" ∷ codes "in.txt" ∷ codes "job.json" ∷ codes "out.txt" ∷ []))
