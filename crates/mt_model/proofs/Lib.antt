@@ -36,3 +36,5 @@ pub mod LawfulPuts
 pub mod LawfulNames
 pub mod LawfulCommit
 pub mod LawfulHistories
+pub mod OutputsStay
+pub mod OutputsLaw

@@ -80,10 +80,6 @@ number_in s p = of_object (λ o. o.number) s p
 abbrev pub body_in : State Bytes → AccountPath → Option Bytes
 body_in s p = of_object (λ o. o.body) s p
 
--- its content type
-abbrev pub type_in : State Bytes → AccountPath → Option Bytes
-type_in s p = of_object (λ o. o.content_type) s p
-
 -- what else it says
 abbrev pub said_in : State Bytes → AccountPath → Option (Option ℕ × List Field × ℕ)
 said_in s p = of_object (λ o. (o.durability, o.metadata, o.mtime)) s p

@@ -1,21 +1,24 @@
 //! Laws of the definitions: what holds over references holds over the bytes that they stand for, each allowed
 //! command keeps a state lawful, and finished jobs are what their phases mean.
-ghost use Rattle.std.specs.Prelude.{◌≡◌, ◌++◌, ℕ, Bool, List, Option, map, true};
+ghost use Rattle.std.specs.Prelude.{◌≡◌, ◌++◌, ℕ, Bool, List, Option, Some, map, true};
+ghost use Rattle.std.specs.List.{Contains};
+ghost use Rattle.std.specs.Option.{option_map};
 ghost use Rattle.mt_types.specs.Limits.{is_index};
 ghost use Rattle.mt_types.specs.Values.{fate_with, item_with, job_with};
 ghost use Rattle.mt_types.specs.WellMade.{IsDocument, IsWellMadeFate};
-ghost use Rattle.mt_model.specs.Types.{AbortUpload, AccountPath, AddInputs, Archive, Body, Cancel, Close, Command, Commit, CommitUpload, Delete, EndInput, Fate, Field, Finish, InputLine, IsPath, Item, Job, JobDocument, Link, MakeDirectory, NewJob, NewUpload, PhaseKind, Put, PutPart, Raw};
+ghost use Rattle.mt_model.specs.Types.{AbortUpload, AccountPath, AddInputs, Archive, Body, Cancel, Close, Command, Commit, CommitUpload, Delete, EndInput, Fate, Field, Finish, InputLine, IsPath, Item, Job, JobDocument, Link, MakeDirectory, NewJob, NewUpload, Object, PhaseKind, Put, PutPart, Raw, TraceEntry};
 ghost use Rattle.mt_model.specs.Bodies.{OfState, resolved_with, rows_with, state_with};
 ghost use Rattle.mt_model.specs.CommandStep.{replay, step};
-ghost use Rattle.mt_model.specs.Feed.{feed};
+ghost use Rattle.mt_model.specs.Feed.{feed, items_of};
 ghost use Rattle.mt_model.specs.Finished.{FinishedJobsMean};
 ghost use Rattle.mt_model.specs.Honest.{Bytes, Honest, HonestFrom};
 ghost use Rattle.mt_model.specs.Keeping.{KeepsLimits, SaysWithin};
 ghost use Rattle.mt_model.specs.Laws.{AllowedIsRead, AllowedOfHeld, IsSharedOnce, KeepsLawful, MeaningIsRead, Reading, ReplayIsRead, TakenFrom};
 ghost use Rattle.mt_model.specs.Lawful.{Lawful};
 ghost use Rattle.mt_model.specs.Listing.{listing, result_set_size};
+ghost use Rattle.mt_model.specs.Names.{ends_in_output, output_path};
 ghost use Rattle.mt_model.specs.Resolve.{Committing, resolve};
-ghost use Rattle.mt_model.specs.Rows.{Rows};
+ghost use Rattle.mt_model.specs.Rows.{Rows, object_at};
 ghost use Rattle.mt_model.specs.State.{State, first_state};
 ghost use Rattle.mt_model.specs.Tasks.{input_of, ready, run_of, share, waits_finish};
 
@@ -93,6 +96,16 @@ pub fn commands_keep_lawful()
 /// A history whose commands are well made and allowed leads from a lawful state to a lawful state.
 pub fn histories_are_lawful()
     ensures { (s : State Body) (h : List (Command Body)) → Lawful s → TakenFrom s h → Lawful (replay s h) }
+{}
+
+/// An object at the path of an output without a place stays, whatever commands follow; and each output of a committed
+/// task that has such a path has its body there. So those of a job keep their bodies for good.
+pub fn outputs_stay()
+    ensures stays { (h more : List (Command Body)) → TakenFrom first_state h → TakenFrom (replay first_state h) more → (id name : List ℕ) (o : Object Body) → ends_in_output name ≡ true
+        → object_at (replay first_state h).rows (output_path id name) ≡ Some o → object_at (replay (replay first_state h) more).rows (output_path id name) ≡ Some o }
+    ensures bodies { (h : List (Command Body)) → TakenFrom first_state h → (job : Job Body) (e : TraceEntry Body) (i : Item Body)
+        → Contains (replay first_state h).jobs job → Contains job.trace e → Contains (items_of e.outcome) i → (id name : List ℕ) → ends_in_output name ≡ true → i.name ≡ output_path id name
+        → option_map (λ o. o.body) (object_at (replay first_state h).rows i.name) ≡ Some i.body }
 {}
 
 /// What starts children.

@@ -11,7 +11,7 @@ ghost use Rattle.mt_model.specs.Meaning.{PhasesMean};
 ghost use Rattle.mt_model.specs.Rows.{at, is_directory};
 ghost use Rattle.mt_model.specs.State.{job_at};
 ghost use Rattle.mt_model.specs.Tasks.{ready, waits_finish};
-ghost use Rattle.mt_model.specs.Worked.{after, asked, begun, body_in, cat_gives, closed, commit, complete, counted, counting, emptied, fed, finished, halfway, in_folder, in_stor, job_of, jobs, joined, judged, last_outcome, line, linked, map_job_after, mapped, marked, named_reducers, names_in, needs, nested, number_in, parted, parted_of, phase, post, put, reads, reduced, said_in, stor, tagged, texts, three, twice_mapped, type_in, upload_in, wrote};
+ghost use Rattle.mt_model.specs.Worked.{after, asked, begun, body_in, cat_gives, closed, commit, complete, counted, counting, emptied, fed, finished, halfway, in_folder, in_stor, job_of, jobs, joined, judged, last_outcome, line, linked, map_job_after, mapped, marked, named_reducers, names_in, needs, nested, number_in, of_object, parted, parted_of, phase, post, put, reads, reduced, said_in, stor, tagged, texts, three, twice_mapped, upload_in, wrote};
 
 /// What refuses a put of an object or of a directory.
 pub fn directory_refusals()
@@ -159,7 +159,7 @@ pub fn closed_job()
         ≡ Some 0x6000 ∷ Some 0x6001 ∷ Some 0x6002 ∷ Some 0x6003 ∷ Some 0x6004 ∷ [] }
     ensures bodies { map (body_in (after closed)) (map (λ n. in_folder (n ∷ [])) (codes "err.txt" ∷ codes "fail.txt" ∷ codes "in.txt" ∷ codes "job.json" ∷ codes "out.txt" ∷ []))
         ≡ Some (codes "e") ∷ Some (codes "f") ∷ Some (codes "i") ∷ Some (codes "s") ∷ Some (codes "o") ∷ [] }
-    ensures types { map (type_in (after closed)) (map (λ n. in_folder (n ∷ [])) (codes "err.txt" ∷ codes "fail.txt" ∷ codes "in.txt" ∷ codes "job.json" ∷ codes "out.txt" ∷ []))
+    ensures types { map (of_object (λ o. o.content_type) (after closed)) (map (λ n. in_folder (n ∷ [])) (codes "err.txt" ∷ codes "fail.txt" ∷ codes "in.txt" ∷ codes "job.json" ∷ codes "out.txt" ∷ []))
         ≡ Some (codes "application/x-json-stream") ∷ Some (codes "text/plain") ∷ Some (codes "text/plain") ∷ Some (codes "application/json") ∷ Some (codes "text/plain") ∷ [] }
     ensures children { result_set_size (after closed).rows (in_folder []) ≡ 6 }
     ensures position { (after closed).count ≡ 7 }
@@ -187,7 +187,7 @@ pub fn upload_of_parts()
 pub fn ends_of_uploads()
     ensures number { number_in (after joined) (in_stor (codes "u")) ≡ Some 0x3000 }
     ensures body { body_in (after joined) (in_stor (codes "u")) ≡ Some (codes "hello") }
-    ensures content_type { type_in (after joined) (in_stor (codes "u")) ≡ Some (codes "text/plain") }
+    ensures content_type { of_object (λ o. o.content_type) (after joined) (in_stor (codes "u")) ≡ Some (codes "text/plain") }
     ensures committed { upload_in (after joined) 0 ≡ Some (Committed, []) }
     ensures closed { map (allowed length (after joined)) (PutPart 0 0 [] 0 ∷ CommitUpload 0 [] [] 0 ∷ AbortUpload 0 0 ∷ []) ≡ Some UploadState ∷ Some UploadState ∷ Some UploadState ∷ [] }
     ensures empty { allowed length (after parted) (CommitUpload 0 [] [] 0) ≡ None }
