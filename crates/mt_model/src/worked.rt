@@ -1,5 +1,5 @@
 //! Worked examples, computed from the definitions. The names and numbers are those that a client sees.
-ghost use Rattle.std.specs.Prelude.{◌≡◌, List, [], ◌∷◌, ◌++◌, codes, length, map, reverse, true, false, Some, None};
+ghost use Rattle.std.specs.Prelude.{◌≡◌, List, [], ◌∷◌, ◌++◌, codes, length, map, reverse, take, true, false, Some, None};
 ghost use Rattle.std.specs.Option.{option_map};
 ghost use Rattle.mt_model.specs.Types.{AbortUpload, Aborted, AddInputs, AlreadyCommitted, AssetsTooLarge, Cancel, Close, CommitUpload, Committed, Delete, DirectoryDoesNotExist, DirectoryNotEmpty, DirectoryOperation, Emit, EndInput, EntityExists, Finish, InputLine, Job, JobNotFound, JobState, Keep, Link, LinkNotFound, LinkNotObject, MakeDirectory, Map, Named, NewUpload, NotATask, NotComplete, NotFound, Open, ParentNotDirectory, PutPart, Ref, RootDirectory, TaskObjectMissing, TaskPlaceRefused, TooManyInputs, UploadNotFound, UploadPart, UploadState, UploadTooLarge};
 ghost use Rattle.mt_types.specs.declared.job.Outcome.TheVariants.{Bad};
@@ -60,6 +60,7 @@ pub fn map_job()
     ensures beyond { allowed length (after halfway) (commit 0x1000 0 2 (wrote (codes "hello"))) ≡ Some NotATask }
     ensures waits { map (λ cs. option_map waits_finish (job_at (after cs).jobs 0x1000)) (halfway ∷ complete ∷ finished ∷ []) ≡ Some false ∷ Some true ∷ Some false ∷ [] }
     ensures position { (after finished).count ≡ 7 }
+    ensures unended { option_map waits_finish (job_at (after (halfway ++ commit 0x1000 0 1 (wrote []) ∷ [])).jobs 0x1000) ≡ Some false }
     ensures early { allowed length (after halfway) (Finish 0x1000 0) ≡ Some NotComplete }
     ensures no_job { map (allowed length (after begun)) (post 0x2000 [] ∷ EndInput 0x2000 0 ∷ commit 0x2000 0 0 (wrote []) ∷ Finish 0x2000 0 ∷ Cancel 0x2000 0 ∷ [])
         ≡ Some JobNotFound ∷ Some JobNotFound ∷ Some JobNotFound ∷ Some JobNotFound ∷ Some JobNotFound ∷ [] }
@@ -88,6 +89,7 @@ pub fn reduce_over_nothing()
 /// What a reducer reads is in the order of the commits, and its number is counted in that order.
 pub fn order_of_commits_decides_shares()
     ensures early { allowed length (after mapped) (commit 0x3000 1 2 (wrote [])) ≡ Some NotATask }
+    ensures before_the_last { allowed length (after (take 8 mapped)) (commit 0x3000 1 0 (wrote [])) ≡ Some NotATask }
     ensures ready { option_map ready (job_at (after mapped).jobs 0x3000) ≡ Some (
         record { job = 0x3000; phase = 1; place = 0 } ∷ record { job = 0x3000; phase = 1; place = 1 } ∷ []) }
     ensures even { reads (after mapped) 0x3000 0 ≡ Some (line (codes "3") ++ line (codes "2")) }
