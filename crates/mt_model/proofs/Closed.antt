@@ -13,7 +13,7 @@ use Rattle.mt_model.specs.Tasks.{complete_before, is_committed, is_complete, is_
 use Rattle.mt_model.proofs.LawfulInputs.{and_left, and_right, and_both}
 use Rattle.mt_model.proofs.Traces.{all_range, is_at, items_front, some_same, task_within}
 
-all_taken : {X : Type 0} (test : X → Bool) (m i : ℕ) (xs : List X) (x : X) → list_all test (take m xs) ≡ true → i < m → slice_get xs i ≡ Some x → test x ≡ true
+pub all_taken : {X : Type 0} (test : X → Bool) (m i : ℕ) (xs : List X) (x : X) → list_all test (take m xs) ≡ true → i < m → slice_get xs i ≡ Some x → test x ≡ true
 all_taken test zero i xs x all less at = absurd (omega arith)
 all_taken test (suc m) i [] x all less at = cc
 all_taken test (suc m) zero (y ∷ xs) x all less at = subst (λ z. test z ≡ true) (ap (λ o. unwrap_or o y) at) (and_left _ _ all)
@@ -24,7 +24,7 @@ fewer_taken test zero xs all = refl
 fewer_taken test (suc m) [] all = refl
 fewer_taken test (suc m) (x ∷ xs) all = and_both (test x) _ (and_left _ _ all) (fewer_taken test m xs (and_right (test x) _ all))
 
-enumerated : (a n : ℕ) (ps : List Phase) (p : Phase) → slice_get ps n ≡ Some p → slice_get (enumerate_from a ps) n ≡ Some (a + n, p)
+pub enumerated : (a n : ℕ) (ps : List Phase) (p : Phase) → slice_get ps n ≡ Some p → slice_get (enumerate_from a ps) n ≡ Some (a + n, p)
 enumerated a n [] p at = cc
 enumerated a zero (q ∷ ps) p at = let same : a ≡ a + 0 = omega arith in ap (λ m. Some (m, q)) same ∙ ap (λ x. Some (a + 0, x)) (some_same q p at)
 enumerated a (suc n) (q ∷ ps) p at = let same : a + 1 + n ≡ a + suc n = omega arith in enumerated (a + 1) n ps p at ∙ ap (λ m. Some (m, p)) same

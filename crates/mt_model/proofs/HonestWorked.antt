@@ -9,9 +9,8 @@ use Rattle.std.proofs.lemmas.Str.{IsUtf8-from_ascii}
 use Rattle.mt_ident.specs.Identifiers.{identifier_text}
 use Rattle.mt_path.specs.AccountPath.{IsComponent, IsPath, path_text}
 use Rattle.mt_types.specs.WellMade.{IsDocument}
-use Rattle.mt_types.specs.declared.command.Command.TheVariants.{Cancel}
-use Rattle.mt_types.specs.declared.document.Phase.{Phase}
-use Rattle.mt_types.specs.declared.document.PhaseKind.TheVariants.{Map}
+use Rattle.mt_types.specs.declared.command.Command.TheVariants.{Cancel, Close, Finish}
+use Rattle.mt_types.specs.declared.command.Command.{Command}
 use Rattle.mt_types.specs.declared.job.Item.{Item}
 use Rattle.mt_types.specs.declared.task.Fate.{Fate}
 use Rattle.mt_types.specs.declared.task.Fate.TheVariants.{Good}
@@ -20,15 +19,13 @@ use Rattle.mt_types.specs.declared.task.Raw.{Raw}
 use Rattle.mt_types.specs.declared.task.TaskRecord.TheVariants.{Emit}
 use Rattle.mt_model.specs.CommandStep.{allowed, change, replay, step}
 use Rattle.mt_model.specs.Feed.{feed}
-use Rattle.mt_model.specs.Finished.{is_finished, live_out, outputs_of, recorded}
-use Rattle.mt_model.specs.Honest.{Bytes, Honest, HonestFrom, itself}
+use Rattle.mt_model.specs.Finished.{IsMeant, is_finished, live_out, outputs_of, recorded}
+use Rattle.mt_model.specs.Honest.{Bytes, Honest, HonestFrom, IsStep, itself}
 use Rattle.mt_model.specs.Meaning.{PhasesMean}
 use Rattle.mt_model.specs.Tasks.{input_of}
-use Rattle.mt_model.specs.Worked.{begun, cat_gives, commit, complete, finished, judged, line, map_job_after, out_of, phase, stor, wrote}
+use Rattle.mt_model.specs.Worked.{after, begun, cat, cat_gives, closed, commit, complete, finished, judged, line, map_job_after, out_of, stor, texts, wrote}
+use Rattle.mt_model.proofs.Finished.{finished_jobs_mean}
 use Rattle.mt_model.proofs.Words.{IsAscii-from_test}
-
-abbrev cat : Phase
-cat = phase Map (codes "cat")
 
 abbrev hello : Raw
 hello = record { status = 0; stderr = []; made = Whole (codes "hello") [] }
@@ -70,9 +67,13 @@ is_document = record {
 
 -- ---- the history
 
-pub cat_is_honest : Honest (codes "l") cat_gives judged finished
+-- what is committed is what a child may give
+abbrev IsNext : Command Bytes → Type 0
+IsNext c = IsStep (codes "l") cat_gives judged (after complete) c
+
+ends_honest : (c : Command Bytes) → IsNext c → Honest (codes "l") cat_gives judged (complete ++ c ∷ [])
 unfolding HonestFrom allowed change replay step identifier_text by_index digits
-cat_is_honest = (
+ends_honest c last = (
   record { room = omega arith; made = a_is_path; free = refl; honest = tt },
   (
     record { room = omega arith; made = is_document; free = refl; honest = tt },
@@ -84,13 +85,29 @@ cat_is_honest = (
           record { room = omega arith; made = tt; free = refl; honest = tt },
           (
             record { room = omega arith; made = (omega arith, (tt, tt)); free = refl; honest = record { of_phase = cat; raw = hello; has = refl; given = refl; judged = refl } },
-            (record { room = omega arith; made = tt; free = refl; honest = tt }, tt),
+            (last, tt),
           ),
         ),
       ),
     ),
   ),
 )
+
+pub closed_is_honest : Honest (codes "l") cat_gives judged closed
+unfolding allowed change replay step identifier_text by_index digits
+closed_is_honest = ends_honest (Close 0x1000 false texts 0) (record { room = omega arith; made = tt; free = refl; honest = tt })
+
+pub finished_is_honest : Honest (codes "l") cat_gives judged finished
+unfolding allowed change replay step identifier_text by_index digits
+finished_is_honest = ends_honest (Finish 0x1000 0) (record { room = omega arith; made = tt; free = refl; honest = tt })
+
+pub closed_is_meant : IsMeant (codes "l") cat_gives judged closed (map_job_after closed)
+unfolding allowed change replay step identifier_text by_index digits
+closed_is_meant = finished_jobs_mean (codes "l") cat_gives judged closed closed_is_honest (map_job_after closed) (0, omega arith, refl) refl
+
+pub finished_is_meant : IsMeant (codes "l") cat_gives judged finished (map_job_after finished)
+unfolding allowed change replay step identifier_text by_index digits
+finished_is_meant = finished_jobs_mean (codes "l") cat_gives judged finished finished_is_honest (map_job_after finished) (0, omega arith, refl) refl
 
 -- ---- what is not honest, and not meant
 
@@ -113,11 +130,11 @@ invented h =
     let both : codes "bye" ≡ codes "hello" = bye ∙ read in
     differ both
 
-pub done : map is_finished (map map_job_after (complete ∷ finished ∷ (begun ++ Cancel 0x1000 0 ∷ []) ∷ [])) ≡ false ∷ true ∷ false ∷ []
+pub done : map is_finished (map map_job_after (complete ∷ finished ∷ closed ∷ (begun ++ Cancel 0x1000 0 ∷ []) ∷ [])) ≡ false ∷ true ∷ true ∷ false ∷ []
 unfolding allowed change replay step identifier_text by_index digits
 done = refl
 
-pub listing : live_out (codes "l") (map_job_after finished) ≡
+pub listing : live_out (codes "l") (map_job_after closed) ≡
     line (codes "/l/jobs/00000002-0000-8000-8000-000000001000/stor/a.0.00000003-0000-8000-8000-000000003000")
     ++ line (codes "/l/jobs/00000002-0000-8000-8000-000000001000/stor/a.0.00000003-0000-8000-8000-000000005000")
 unfolding allowed change replay step identifier_text by_index digits path_text
@@ -127,6 +144,6 @@ listing = refl
 abbrev first_digit : List (Item Bytes) → ℕ
 first_digit items = get_or (map (λ i. get_or (get_or i.name.parts 2 []) 36 0) items) 0 0
 
-pub other_order : PhasesMean (map_job_after finished).document.phases (map_job_after finished).inputs (recorded (map_job_after finished)) (reverse (outputs_of (map_job_after finished))) → ⊥
+pub other_order : PhasesMean (map_job_after closed).document.phases (map_job_after closed).inputs (recorded (map_job_after closed)) (reverse (outputs_of (map_job_after closed))) → ⊥
 unfolding allowed change replay step identifier_text by_index digits
 other_order m = let e : ◌≡◌ {A = ℕ} 51 53 = ap first_digit m.2 in absurd (omega (arith, e))

@@ -34,10 +34,10 @@ others k is = subst IsOnRows (sym is) tt
 
 module _ {K X : Type 0} (Q : X → Type 0) where
   -- it holds of each value
-  abbrev OfEach : List (K × X) → Type 0
+  abbrev pub OfEach : List (K × X) → Type 0
   OfEach es = AllByRecursion (λ e. Q e.1) es
 
-  inserted : (R : K → K → Ordering) (es : List (K × X)) (k : K) (v : X) → OfEach es → Q v → OfEach (insert_entry R es k v)
+  pub inserted : (R : K → K → Ordering) (es : List (K × X)) (k : K) (v : X) → OfEach es → Q v → OfEach (insert_entry R es k v)
   inserted R [] k v all is = (is, tt)
   inserted R (e ∷ es) k v all is = elim (R k e.0) as (λ r. OfEach (match_ordering r ((k, v) ∷ e ∷ es) ((e.0, v) ∷ es) (e ∷ insert_entry R es k v))) [
     | Less ↦ (is, all)
@@ -61,8 +61,8 @@ module _ {K X : Type 0} (Q : X → Type 0) where
       ] in
       by is
 
-module _ {B : Type 0} (Q : Entry B → Type 0) (again : (o : Object B) (moment : ℕ) → Q (entry.Object o) → Q (entry.Directory moment) → Q (entry.Object (record o { mtime = moment }))) where
-  entry_at : (rows : Rows B) (p : AccountPath) (o : Object B) → OfEach Q rows → object_at rows p ≡ Some o → Q (entry.Object o)
+module _ {B : Type 0} (Q : Entry B → Type 0) where
+  pub entry_at : (rows : Rows B) (p : AccountPath) (o : Object B) → OfEach Q rows → object_at rows p ≡ Some o → Q (entry.Object o)
   entry_at rows p o all is = by (at rows p) refl is
     where
       by : (e : Option (Entry B)) → at rows p ≡ e → object_in e ≡ Some o → Q (entry.Object o)
@@ -70,12 +70,13 @@ module _ {B : Type 0} (Q : Entry B → Type 0) (again : (o : Object B) (moment :
       by (Some (entry.Directory mtime)) here is = absurd (none-some o is)
       by (Some (entry.Object object)) here is = subst (λ x. Q (entry.Object x)) (same_Some _ _ is) (found Q (is_path p) rows (entry.Object object) all here)
 
+module _ {B : Type 0} (Q : Entry B → Type 0) (again : (o : Object B) (moment : ℕ) → Q (entry.Object o) → Q (entry.Directory moment) → Q (entry.Object (record o { mtime = moment }))) where
   of_linked : (rows : Rows B) (p source : AccountPath) (moment : ℕ) → OfEach Q rows → Q (entry.Directory moment) → OfEach Q (linked rows p (object_at rows source) moment)
   of_linked rows p source moment all now = by (object_at rows source) refl
     where
       by : (o : Option (Object B)) → object_at rows source ≡ o → OfEach Q (linked rows p o moment)
       by None is = all
-      by (Some o) is = inserted Q path_cmp rows p (entry.Object (record o { mtime = moment })) all (again o moment (entry_at rows source o all is) now)
+      by (Some o) is = inserted Q path_cmp rows p (entry.Object (record o { mtime = moment })) all (again o moment (entry_at Q rows source o all is) now)
 
   -- what a command on rows has to bring
   abbrev pub Brings : ℕ → Command B → Type 0

@@ -266,7 +266,7 @@ module _ {B : Type 0} (count : ℕ) (rows : Rows B) (jobs : List (Job B)) (law :
   no_directory name never (entry.Object o) fits = refl
   no_directory name never (entry.Directory mtime) fits = absurd (clash (bytes_eq name (codes "stor")) (is_archive_name name) (is_some j.done) never fits)
 
-  free_case : (name : List ℕ) → bytes_eq name (codes "stor") ≡ false → (o : Option (Entry B)) → at rows (in_job_folder n name) ≡ o → is_directory o ≡ false
+  pub free_case : (name : List ℕ) → bytes_eq name (codes "stor") ≡ false → (o : Option (Entry B)) → at rows (in_job_folder n name) ≡ o → is_directory o ≡ false
   free_case name never None is = refl
   free_case name never (Some e) is =
       no_directory name never e (sym (ap (λ o. fits_below o (name ∷ []) e) named_n) ∙ lawful.entries (job_name n) (name ∷ []) e is)

@@ -48,7 +48,7 @@ not_true : (b : Bool) → not b ≡ true → b ≡ false
 not_true true e = cc
 not_true false e = refl
 
-none_at : {X : Type 0} (t : X → Bool) (f : ℕ → X) (a n k : ℕ) → list_any t (map f (range_with_len a n)) ≡ false → k < n → t (f (a + k)) ≡ false
+pub none_at : {X : Type 0} (t : X → Bool) (f : ℕ → X) (a n k : ℕ) → list_any t (map f (range_with_len a n)) ≡ false → k < n → t (f (a + k)) ≡ false
 none_at t f a zero k none less = absurd (omega arith)
 none_at t f a (suc n) zero none less = let same : a ≡ a + 0 = omega arith in subst (λ m. t (f m) ≡ false) same (or_none (t (f a)) _ none).0
 none_at t f a (suc n) (suc k) none less =

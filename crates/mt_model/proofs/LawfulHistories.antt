@@ -16,7 +16,7 @@ use Rattle.mt_model.specs.State.{State, first_state}
 use Rattle.mt_model.proofs.LawfulSteps.{Lawful-abort_upload, Lawful-add_inputs, Lawful-cancel, Lawful-close, Lawful-commit, Lawful-commit_upload, Lawful-delete, Lawful-end_input, Lawful-finish, Lawful-first_state, Lawful-link, Lawful-make_directory, Lawful-new_job, Lawful-new_upload, Lawful-put, Lawful-put_part}
 
 -- one command
-lawful_step : {B : Type 0} (size : B → ℕ) (s : State B) (c : Command B) → Lawful s → s.count < MOST_COMMANDS → IsWellMade c → allowed size s c ≡ None → Lawful (step s c)
+pub lawful_step : {B : Type 0} (size : B → ℕ) (s : State B) (c : Command B) → Lawful s → s.count < MOST_COMMANDS → IsWellMade c → allowed size s c ≡ None → Lawful (step s c)
 lawful_step size s (Put path content_type body durability metadata moment) law room made e = Lawful-put size s law path content_type body durability metadata moment made e
 lawful_step size s (MakeDirectory path moment) law room made e = Lawful-make_directory size s law path moment made e
 lawful_step size s (Link path source moment) law room made e = Lawful-link size s law path source moment made.0 e

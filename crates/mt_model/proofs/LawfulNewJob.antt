@@ -171,7 +171,7 @@ module _ {B : Type 0} (count : ℕ) (rows : Rows B) (jobs : List (Job B)) (law :
       (All-weaker (LawfulJob count) (λ j. bytes_eq (job_name j.number) id ≡ false) (λ j l. unnamed_case j l (bytes_eq (job_name j.number) id) refl) jobs lawful.each)
 
   -- and nothing stands below it
-  unused : (names : List (List ℕ)) → in_jobs rows (id ∷ names) ≡ None
+  pub unused : (names : List (List ℕ)) → in_jobs rows (id ∷ names) ≡ None
   unused names = none_from (in_jobs rows (id ∷ names)) (λ e is.
       let fits : fits_below (job_named jobs id) names e ≡ true = lawful.entries id names e is in
       true≢false (sym fits ∙ ap (λ o. fits_below o names e) fresh))

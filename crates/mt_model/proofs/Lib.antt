@@ -10,6 +10,8 @@ pub mod MeaningWith
 pub mod Agree
 pub mod Held
 pub mod Keeping
+pub mod EachStep
+pub mod Within
 pub mod Replays
 pub mod Words
 pub mod LawfulRows
@@ -34,3 +36,5 @@ pub mod LawfulPuts
 pub mod LawfulNames
 pub mod LawfulCommit
 pub mod LawfulHistories
+pub mod OutputsStay
+pub mod OutputsLaw

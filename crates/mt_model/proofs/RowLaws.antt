@@ -1,4 +1,4 @@
--- What a change leaves at each path, and that each change that is not refused keeps a tree.
+-- What a change leaves at each path, that each change that is not refused keeps a tree, and how a row's change is undone.
 use Rattle.std.proofs.Common.{◌≡◌, ℕ, Bool, true, false, cond, [], ◌∷◌, length, Option, Some, None, not, refl, sym, ap, subst, ◌∙◌, arith}
 use Rattle.std.specs.Prelude.{is_some, IsSome}
 use Rattle.std.specs.Cmp.{unsigned_Decides, eq_by_cmp_equiv}
@@ -20,7 +20,7 @@ use Rattle.mt_types.specs.declared.object.Entry.TheVariants as entry
 use Rattle.mt_types.specs.declared.object.Object.{Object}
 use Rattle.mt_types.specs.declared.refusal.Refusal.{Refusal}
 use Rattle.mt_model.specs.Rows.{Rows, is_path, is_above, is_child, is_root, first_refusal, refuse_if, at, with_row, without_row, is_directory, children, directory_refusal, above_refusal, parent_refusal, put_refusal, make_directory_refusal, remove_refusal, link_refusal, IsTree, first_rows}
-use Rattle.mt_model.proofs.Entries.{lookup-insert_entry, sorted-insert_entry, sorted-remove_entry}
+use Rattle.mt_model.proofs.Entries.{lookup-insert_entry, sorted-insert_entry, sorted-remove_entry, undo_new, undo_old}
 
 equal : (r : Ordering) → is_eq r ≡ true → r ≡ Equal
 equal Less e = cc
@@ -58,6 +58,14 @@ module _ {B : Type 0} where
 
   pub sorted-without_row : (rows : Rows B) (p : AccountPath) → IsStrictlySortedBy path_cmp (keys_of rows) → IsStrictlySortedBy path_cmp (keys_of (without_row rows p))
   sorted-without_row rows p s = sorted-remove_entry path_cmp (is_path p) rows s
+
+  -- a row that was added is undone by its removal
+  pub undo-new_row : (rows : Rows B) (p : AccountPath) (e : Entry B) → at rows p ≡ None → without_row (with_row rows p e) p ≡ rows
+  undo-new_row rows p e none = undo_new path_cmp p (equal (path_cmp p p) (is_path-self p)) e rows none
+
+  -- a row that was replaced is undone by the one that stood there
+  pub undo-old_row : (rows : Rows B) (p : AccountPath) (e old : Entry B) → IsStrictlySortedBy path_cmp (keys_of rows) → at rows p ≡ Some old → with_row (with_row rows p e) p old ≡ rows
+  undo-old_row rows p e old s some = undo_old path_cmp p (equal (path_cmp p p) (is_path-self p)) path_cmp_total e old rows s some
 
   -- a row that is added where the parent is a directory and directories stay directories
   module _ (rows : Rows B) (p : AccountPath) (e : Entry B) (keep : is_directory (at rows p) ≡ true → is_directory (Some e) ≡ true) where

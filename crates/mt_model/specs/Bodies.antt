@@ -1,22 +1,11 @@
 -- The same state over other bodies, and what holds of each body of a state.
 use Rattle.std.specs.Prelude.{List, map, ⊤}
 use Rattle.std.specs.List.{AllByRecursion}
-use Rattle.mt_path.specs.AccountPath.{AccountPath}
+use Rattle.mt_model.specs.Types.{AccountPath, Archive, Close, Command, Commit, CommitUpload, Emit, Entry, Fate, Item, Job, Keep, Outcome, Put, PutPart, Ref, TaskRecord, Upload}
 use Rattle.mt_types.specs.Values.{entry_with, item_with, job_with, outcome_with, upload_with}
-use Rattle.mt_types.specs.declared.command.Archive.{Archive}
-use Rattle.mt_types.specs.declared.command.Command.{Command}
-use Rattle.mt_types.specs.declared.command.Command.TheVariants.{Put, MakeDirectory, Link, Delete, NewJob, AddInputs, EndInput, Commit, Finish, Cancel, Close, NewUpload, PutPart, CommitUpload, AbortUpload}
-use Rattle.mt_types.specs.declared.job.Item.{Item}
-use Rattle.mt_types.specs.declared.job.Job.{Job}
-use Rattle.mt_types.specs.declared.job.Outcome.{Outcome}
 use Rattle.mt_types.specs.declared.job.Outcome.TheVariants.{Good, Bad}
-use Rattle.mt_types.specs.declared.object.Entry.{Entry}
 use Rattle.mt_types.specs.declared.object.Entry.TheVariants as entry
-use Rattle.mt_types.specs.declared.task.Fate.{Fate}
 use Rattle.mt_types.specs.declared.task.Fate.TheVariants as fate
-use Rattle.mt_types.specs.declared.task.TaskRecord.{TaskRecord}
-use Rattle.mt_types.specs.declared.task.TaskRecord.TheVariants.{Emit, Keep, Ref}
-use Rattle.mt_types.specs.declared.upload.Upload.{Upload}
 use Rattle.mt_model.specs.Resolve.{Resolved, Taken}
 use Rattle.mt_model.specs.Rows.{Rows}
 use Rattle.mt_model.specs.State.{State}
@@ -96,17 +85,8 @@ module _ {A : Type 0} (P : A → Type 0) where
   -- of a command: those that it brings
   abbrev pub OfCommand : Command A → Type 0
   OfCommand (Put path content_type body durability metadata moment) = P body
-  OfCommand (MakeDirectory path moment) = ⊤
-  OfCommand (Link path source moment) = ⊤
-  OfCommand (Delete path moment) = ⊤
-  OfCommand (NewJob document moment) = ⊤
-  OfCommand (AddInputs job lines moment) = ⊤
-  OfCommand (EndInput job moment) = ⊤
   OfCommand (Commit job phase place fate moment) = OfFate fate
-  OfCommand (Finish job moment) = ⊤
-  OfCommand (Cancel job moment) = ⊤
   OfCommand (Close job cancelled archive moment) = OfArchive archive
-  OfCommand (NewUpload path content_type moment) = ⊤
   OfCommand (PutPart upload index body moment) = P body
   OfCommand (CommitUpload upload parts body moment) = P body
-  OfCommand (AbortUpload upload moment) = ⊤
+  OfCommand other = ⊤

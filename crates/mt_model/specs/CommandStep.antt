@@ -1,14 +1,7 @@
 -- The commands: why each is refused, and what it makes of the state.
 use Rattle.std.specs.Prelude.{ℕ, ◌+◌, true, false, List, [], ◌∷◌, Option, Some, None}
-use Rattle.mt_path.specs.AccountPath.{AccountPath}
-use Rattle.mt_types.specs.declared.command.Command.{Command}
-use Rattle.mt_types.specs.declared.command.Command.TheVariants.{Put, MakeDirectory, Link, Delete, NewJob, AddInputs, EndInput, Commit, Finish, Cancel, Close, NewUpload, PutPart, CommitUpload, AbortUpload}
+use Rattle.mt_model.specs.Types.{AbortUpload, Aborted, AccountPath, AddInputs, Cancel, Close, Command, Commit, CommitUpload, Delete, EndInput, Field, Finish, Link, MakeDirectory, NewJob, NewUpload, Object, Put, PutPart, Refusal, RootDirectory}
 use Rattle.mt_types.specs.declared.object.Entry.TheVariants as entry
-use Rattle.mt_types.specs.declared.object.Field.{Field}
-use Rattle.mt_types.specs.declared.object.Object.{Object}
-use Rattle.mt_types.specs.declared.refusal.Refusal.{Refusal}
-use Rattle.mt_types.specs.declared.refusal.Refusal.TheVariants.{RootDirectory}
-use Rattle.mt_types.specs.declared.upload.Stage.TheVariants.{Aborted}
 use Rattle.mt_model.specs.JobSteps.{job_refusal, new_job_refusal, add_job, add_inputs_refusal, with_lines, input_refusal, with_end, commit_refusal, commit, finish_refusal, running_refusal, close_refusal, done_at, close}
 use Rattle.mt_model.specs.Names.{number_at}
 use Rattle.mt_model.specs.Rows.{Rows, first_refusal, link_refusal, make_directory_refusal, object_at, put_refusal, refuse_if, remove_refusal, with_row, without_row}
@@ -30,7 +23,7 @@ module _ {B : Type 0} where
   linked rows p None moment = rows
   linked rows p (Some object) moment = with_row rows p (entry.Object (record object { mtime = moment }))
 
-  -- why a command is refused, if it is: by the size of a body
+  -- the refusal of a command, or none where it is allowed; by the size of a body
   unfoldable pub allowed : (B → ℕ) → State B → Command B → Option Refusal
   allowed size s (Put path content_type body durability metadata moment) = outside_jobs path (put_refusal s.rows path)
   allowed size s (MakeDirectory path moment) = outside_jobs path (make_directory_refusal s.rows path)

@@ -1,11 +1,8 @@
 -- What the phases of a job read.
 use Rattle.std.specs.Prelude.{ℕ, ◌==◌, List, [], zero, suc}
 use Rattle.std.specs.List.{filter, flat_map}
-use Rattle.mt_types.specs.declared.job.Item.{Item}
-use Rattle.mt_types.specs.declared.job.Job.{Job}
-use Rattle.mt_types.specs.declared.job.Outcome.{Outcome}
+use Rattle.mt_model.specs.Types.{Item, Job, Outcome, TraceEntry}
 use Rattle.mt_types.specs.declared.job.Outcome.TheVariants.{Good, Bad}
-use Rattle.mt_types.specs.declared.job.TraceEntry.{TraceEntry}
 
 module _ {B : Type 0} where
   -- the outputs of a task

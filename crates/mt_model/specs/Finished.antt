@@ -1,18 +1,7 @@
 -- What is promised of a finished job.
 use Rattle.std.specs.Prelude.{◌≡◌, ℕ, ◌%◌, ◌==◌, Bool, true, not, ◌&&◌, is_some, ⊤, List, [], ◌∷◌, ◌++◌, length, map, Some}
 use Rattle.std.specs.List.{count_by, flat_map, slice_get, Contains}
-use Rattle.mt_path.specs.AccountPath.{path_text}
-use Rattle.mt_types.specs.declared.command.Command.{Command}
-use Rattle.mt_types.specs.declared.command.Command.TheVariants.{Commit}
-use Rattle.mt_types.specs.declared.document.Phase.{Phase}
-use Rattle.mt_types.specs.declared.document.PhaseKind.{PhaseKind}
-use Rattle.mt_types.specs.declared.document.PhaseKind.TheVariants.{Map, Reduce}
-use Rattle.mt_types.specs.declared.job.Item.{Item}
-use Rattle.mt_types.specs.declared.job.Job.{Job}
-use Rattle.mt_types.specs.declared.job.TraceEntry.{TraceEntry}
-use Rattle.mt_types.specs.declared.task.Fate.{Fate}
-use Rattle.mt_types.specs.declared.task.Raw.{Raw}
-use Rattle.mt_types.specs.declared.task.Run.{Run}
+use Rattle.mt_model.specs.Types.{Command, Commit, Fate, Item, Job, Map, Phase, PhaseKind, Raw, Reduce, Run, TraceEntry, path_text}
 use Rattle.mt_model.specs.CommandStep.{replay}
 use Rattle.mt_model.specs.Feed.{entries_of, feed}
 use Rattle.mt_model.specs.Honest.{Bytes, Honest, MayGive}

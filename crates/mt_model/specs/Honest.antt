@@ -1,17 +1,7 @@
 -- Histories whose commits came of children: what a promise of a finished job is asked of.
 use Rattle.std.specs.Prelude.{◌≡◌, ℕ, ◌<◌, ⊤, List, [], ◌∷◌, length, Option, Some, None}
 use Rattle.std.specs.List.{flat_map, slice_get}
-use Rattle.mt_types.specs.WellMade.{IsWellMade}
-use Rattle.mt_types.specs.declared.command.Command.{Command}
-use Rattle.mt_types.specs.declared.command.Command.TheVariants.{Put, MakeDirectory, Link, Delete, NewJob, AddInputs, EndInput, Commit, Finish, Cancel, Close, NewUpload, PutPart, CommitUpload, AbortUpload}
-use Rattle.mt_types.specs.declared.document.Phase.{Phase}
-use Rattle.mt_types.specs.declared.job.Item.{Item}
-use Rattle.mt_types.specs.declared.job.Job.{Job}
-use Rattle.mt_types.specs.declared.limits.TheConstants.{MOST_COMMANDS}
-use Rattle.mt_types.specs.declared.task.Fate.{Fate}
-use Rattle.mt_types.specs.declared.task.Raw.{Raw}
-use Rattle.mt_types.specs.declared.task.Run.{Run}
-use Rattle.mt_types.specs.declared.upload.Upload.{Upload}
+use Rattle.mt_model.specs.Types.{Command, Commit, CommitUpload, Fate, IsWellMade, Item, Job, MOST_COMMANDS, Phase, Raw, Run, Upload}
 use Rattle.mt_model.specs.CommandStep.{allowed, step}
 use Rattle.mt_model.specs.Feed.{feed}
 use Rattle.mt_model.specs.State.{State, first_state, job_at, upload_at}
@@ -51,21 +41,9 @@ module _ (login : List ℕ) (gives : Run → Bytes → Raw → Type 0) (fate_of 
 
   -- a commit came of a child, and the object of an upload of its parts
   abbrev pub IsHonest : State Bytes → Command Bytes → Type 0
-  IsHonest s (Put path content_type body durability metadata moment) = ⊤
-  IsHonest s (MakeDirectory path moment) = ⊤
-  IsHonest s (Link path source moment) = ⊤
-  IsHonest s (Delete path moment) = ⊤
-  IsHonest s (NewJob document moment) = ⊤
-  IsHonest s (AddInputs job lines moment) = ⊤
-  IsHonest s (EndInput job moment) = ⊤
   IsHonest s (Commit job phase place fate moment) = OfFound (λ j. CameOfChild j phase place fate) (job_at s.jobs job)
-  IsHonest s (Finish job moment) = ⊤
-  IsHonest s (Cancel job moment) = ⊤
-  IsHonest s (Close job cancelled archive moment) = ⊤
-  IsHonest s (NewUpload path content_type moment) = ⊤
-  IsHonest s (PutPart upload index body moment) = ⊤
   IsHonest s (CommitUpload upload parts body moment) = OfFound (IsJoined parts body) (upload_at s.uploads upload)
-  IsHonest s (AbortUpload upload moment) = ⊤
+  IsHonest s other = ⊤
 
   -- a command that is well made, allowed and honest in a state that has room for one more
   pub record IsStep (s : State Bytes) (c : Command Bytes) : Type 0 where

@@ -2,19 +2,8 @@
 use Rattle.std.specs.Prelude.{ℕ, ◌+◌, Bool, true, false, not, ◌&&◌, ◌||◌, nat_lt, List, [], ◌∷◌, ◌++◌, map, length, codes, Option, Some, None}
 use Rattle.std.specs.List.{filter_map, fold, list_any, slice_get, sum_by}
 use Rattle.std.specs.Option.{unwrap_or, option_map}
-use Rattle.mt_path.specs.AccountPath.{AccountPath}
-use Rattle.mt_types.specs.declared.command.Archive.{Archive}
-use Rattle.mt_types.specs.declared.document.InputLine.{InputLine}
-use Rattle.mt_types.specs.declared.document.InputLine.TheVariants.{Named, Other}
-use Rattle.mt_types.specs.declared.document.JobDocument.{JobDocument}
-use Rattle.mt_types.specs.declared.document.Phase.{Phase}
-use Rattle.mt_types.specs.declared.job.Job.{Job}
-use Rattle.mt_types.specs.declared.job.TraceEntry.{TraceEntry}
+use Rattle.mt_model.specs.Types.{AccountPath, AlreadyCommitted, Archive, AssetsTooLarge, Fate, InputLine, Job, JobDocument, JobNotFound, JobState, Named, NotATask, NotComplete, NotFound, Object, Other, Phase, Refusal, TooManyInputs, TraceEntry}
 use Rattle.mt_types.specs.declared.object.Entry.TheVariants as entry
-use Rattle.mt_types.specs.declared.object.Object.{Object}
-use Rattle.mt_types.specs.declared.refusal.Refusal.{Refusal}
-use Rattle.mt_types.specs.declared.refusal.Refusal.TheVariants.{NotFound, AssetsTooLarge, JobNotFound, JobState, TooManyInputs, NotATask, AlreadyCommitted, NotComplete}
-use Rattle.mt_types.specs.declared.task.Fate.{Fate}
 use Rattle.mt_model.specs.Feed.{feed}
 use Rattle.mt_model.specs.Limits.{most_asset_bytes, most_inputs}
 use Rattle.mt_model.specs.Names.{in_job_folder, job_folder, job_stor, number_at, root_of_input}

@@ -1,17 +1,10 @@
 -- The limits that the values of a state keep, so that each can be told and written.
-use Rattle.std.specs.Prelude.{ℕ, IsTrue, ⊤, List, Option, IfSome}
+use Rattle.std.specs.Prelude.{ℕ, ◌<◌, ◌≤◌, ◌^◌, IsTrue, ⊤, List, length, Option, IfSome}
 use Rattle.std.specs.List.{AllByRecursion}
-use Rattle.mt_types.specs.Limits.{FitsMetadata, is_command_line, is_content_type, is_durability, is_job_name, is_line_text, is_moment}
-use Rattle.mt_types.specs.declared.command.Command.{Command}
-use Rattle.mt_types.specs.declared.command.Command.TheVariants.{Put, MakeDirectory, Link, Delete, NewJob, AddInputs, EndInput, Commit, Finish, Cancel, Close, NewUpload, PutPart, CommitUpload, AbortUpload}
-use Rattle.mt_types.specs.declared.document.InputLine.{InputLine}
-use Rattle.mt_types.specs.declared.document.InputLine.TheVariants.{Named, Other}
-use Rattle.mt_types.specs.declared.document.Phase.{Phase}
-use Rattle.mt_types.specs.declared.job.Job.{Job}
-use Rattle.mt_types.specs.declared.object.Entry.{Entry}
+use Rattle.mt_model.specs.Types.{AddInputs, Cancel, Close, Command, Commit, CommitUpload, Entry, Fate, Field, Finish, FitsMetadata, InputLine, Job, JobDocument, LONGEST_STDERR, Link, MakeDirectory, Named, NewJob, NewUpload, Other, Outcome, Phase, Put, Upload, is_command_line, is_content_type, is_durability, is_job_name, is_line_text, is_moment}
+use Rattle.mt_types.specs.declared.job.Outcome.TheVariants as outcome
 use Rattle.mt_types.specs.declared.object.Entry.TheVariants as entry
-use Rattle.mt_types.specs.declared.object.Field.{Field}
-use Rattle.mt_types.specs.declared.upload.Upload.{Upload}
+use Rattle.mt_types.specs.declared.task.Fate.TheVariants as fate
 use Rattle.mt_model.specs.State.{State}
 
 -- seconds up to the end of the year 9999
@@ -30,10 +23,15 @@ pub record IsPhase (p : Phase) : Type 0 where
   pub exec : IsTrue (is_command_line p.exec)
   pub init : IfSome p.init (λ t. IsTrue (is_command_line t))
 
--- a line that is no path
+-- the name and the command lines of a document
+pub record IsSaidDocument (d : JobDocument) : Type 0 where
+  pub name : IsTrue (is_job_name d.name)
+  pub phases : AllByRecursion IsPhase d.phases
+
+-- a line that is no path: its length has four bytes
 abbrev pub IsLine : InputLine → Type 0
 IsLine (Named p) = ⊤
-IsLine (Other t) = IsTrue (is_line_text t)
+IsLine (Other t) = IsTrue (is_line_text t) × (length t < 2 ^ 32)
 
 module _ {B : Type 0} where
   -- what stands at a path
@@ -41,13 +39,18 @@ module _ {B : Type 0} where
   IsEntry (entry.Directory mtime) = IsMoment mtime
   IsEntry (entry.Object o) = IsSaid o.content_type o.durability o.metadata o.mtime
 
+  -- the front of standard error that a failed task left
+  abbrev pub IsOutcome : Outcome B → Type 0
+  IsOutcome (outcome.Good items) = ⊤
+  IsOutcome (outcome.Bad failure status stderr) = length stderr ≤ LONGEST_STDERR
+
   -- a job: its moments and its texts
   pub record IsJob (j : Job B) : Type 0 where
     pub created : IsMoment j.created
     pub done : IfSome j.done IsMoment
-    pub name : IsTrue (is_job_name j.document.name)
-    pub phases : AllByRecursion IsPhase j.document.phases
+    pub document : IsSaidDocument j.document
     pub missing : AllByRecursion IsLine j.missing
+    pub outcomes : AllByRecursion (λ e. IsOutcome e.outcome) j.trace
 
   -- an upload
   pub record IsUpload (u : Upload B) : Type 0 where
@@ -60,20 +63,22 @@ module _ {B : Type 0} where
     pub jobs : AllByRecursion IsJob s.jobs
     pub uploads : AllByRecursion IsUpload s.uploads
 
-  -- what a command on rows says
+  -- the same of a fate
+  abbrev pub IsSaidFate : Fate B → Type 0
+  IsSaidFate (fate.Good records) = ⊤
+  IsSaidFate (fate.Bad failure status stderr) = length stderr ≤ LONGEST_STDERR
+
+  -- what a command brings into the state is within the limits
   abbrev pub SaysWithin : Command B → Type 0
   SaysWithin (Put path content_type body durability metadata moment) = IsSaid content_type durability metadata moment
   SaysWithin (MakeDirectory path moment) = IsMoment moment
   SaysWithin (Link path source moment) = IsMoment moment
-  SaysWithin (Delete path moment) = ⊤
-  SaysWithin (NewJob document moment) = ⊤
-  SaysWithin (AddInputs job lines moment) = ⊤
-  SaysWithin (EndInput job moment) = ⊤
-  SaysWithin (Commit job phase place fate moment) = ⊤
-  SaysWithin (Finish job moment) = ⊤
-  SaysWithin (Cancel job moment) = ⊤
-  SaysWithin (Close job cancelled archive moment) = ⊤
-  SaysWithin (NewUpload path content_type moment) = ⊤
-  SaysWithin (PutPart upload index body moment) = ⊤
-  SaysWithin (CommitUpload upload parts body moment) = ⊤
-  SaysWithin (AbortUpload upload moment) = ⊤
+  SaysWithin (NewJob document moment) = IsMoment moment × IsSaidDocument document
+  SaysWithin (AddInputs job lines moment) = AllByRecursion IsLine lines
+  SaysWithin (Commit job phase place fate moment) = IsMoment moment × IsSaidFate fate
+  SaysWithin (Finish job moment) = IsMoment moment
+  SaysWithin (Cancel job moment) = IsMoment moment
+  SaysWithin (Close job cancelled archive moment) = IsMoment moment
+  SaysWithin (NewUpload path content_type moment) = IsTrue (is_content_type content_type) × IsMoment moment
+  SaysWithin (CommitUpload upload parts body moment) = IsMoment moment
+  SaysWithin other = ⊤

@@ -1,24 +1,15 @@
--- What holds of every state that allowed commands reach.
+-- What holds of every state that well made, allowed commands reach.
 use Rattle.std.specs.Prelude.{◌≡◌, ℕ, ◌-◌, ◌*◌, ◌%◌, ◌==◌, ◌<◌, ◌≤◌, Bool, true, false, not, ◌&&◌, ◌||◌, List, [], ◌∷◌, map, length, drop, bytes_eq, codes, All, Option, Some, None, IsSome, is_some}
 use Rattle.std.specs.List.{find, list_all, list_any}
 use Rattle.std.specs.List.Sorted.{IsStrictlySortedBy}
 use Rattle.std.specs.Option.{option_map_or}
 use Rattle.std.specs.Ordering.{nat_cmp}
 use Rattle.mt_ident.specs.Identifiers.{identifier_number}
-use Rattle.mt_path.specs.AccountPath.{AccountPath, IsComponent, IsPath}
-use Rattle.mt_path.specs.declared.area.Area.TheVariants.{Jobs}
-use Rattle.mt_types.specs.WellMade.{IsDocument}
-use Rattle.mt_types.specs.declared.job.Item.{Item}
-use Rattle.mt_types.specs.declared.job.Job.{Job}
-use Rattle.mt_types.specs.declared.object.Entry.{Entry}
+use Rattle.mt_model.specs.Types.{AccountPath, Entry, IsComponent, IsDocument, IsPath, Item, Job, Jobs, LAST_PART, NUMBERS_A_COMMAND, Object, PartRow, Upload}
 use Rattle.mt_types.specs.declared.object.Entry.TheVariants as entry
-use Rattle.mt_types.specs.declared.object.Object.{Object}
-use Rattle.mt_types.specs.declared.upload.PartRow.{PartRow}
-use Rattle.mt_types.specs.declared.upload.Upload.{Upload}
 use Rattle.mt_model.specs.Feed.{items_of}
 use Rattle.mt_model.specs.JobSteps.{archive_names}
 use Rattle.mt_model.specs.Limits.{longest_root}
-use Rattle.mt_types.specs.declared.limits.TheConstants.{LAST_PART, NUMBERS_A_COMMAND}
 use Rattle.mt_model.specs.Names.{ends_in_output, in_job_folder, job_folder, job_name, job_stor}
 use Rattle.mt_model.specs.Resolve.{is_object_at}
 use Rattle.mt_model.specs.Rows.{Rows, IsTree, at, is_directory, is_root, object_at, object_in}

@@ -3,7 +3,7 @@ use Rattle.std.specs.Prelude.{ℕ, ◌-◌, Bool, List, [], length, take, slice_
 use Rattle.std.specs.Cmp.Lexicographic.{slice_cmp}
 use Rattle.std.specs.List.{filter}
 use Rattle.std.specs.Ordering.{nat_cmp, is_le}
-use Rattle.mt_path.specs.AccountPath.{AccountPath}
+use Rattle.mt_model.specs.Types.{AccountPath}
 use Rattle.mt_model.specs.Rows.{Rows, children}
 
 -- the last component of a path; of a root, no bytes

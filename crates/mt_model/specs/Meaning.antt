@@ -1,10 +1,7 @@
 -- What the phases of a job mean over its inputs, in the order in which tasks were committed.
 use Rattle.std.specs.Prelude.{◌≡◌, ℕ, ◌+◌, ◌==◌, nat_lt, List, [], ◌∷◌, cond, All, ⊤}
 use Rattle.std.specs.List.{count_by}
-use Rattle.mt_types.specs.declared.document.Phase.{Phase}
-use Rattle.mt_types.specs.declared.document.PhaseKind.{PhaseKind}
-use Rattle.mt_types.specs.declared.job.Item.{Item}
-use Rattle.mt_types.specs.declared.job.TraceEntry.{TraceEntry}
+use Rattle.mt_model.specs.Types.{Item, Phase, PhaseKind, TraceEntry}
 use Rattle.mt_model.specs.Feed.{items_in}
 use Rattle.mt_model.specs.Tasks.{task_count}
 

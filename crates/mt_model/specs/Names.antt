@@ -3,11 +3,8 @@ use Rattle.std.specs.Prelude.{ℕ, ◌+◌, ◌*◌, ◌-◌, Bool, true, false,
 use Rattle.std.specs.Fmt.{decimal}
 use Rattle.std.specs.List.{range_with_len}
 use Rattle.mt_ident.specs.Identifiers.{identifier_text, identifier_number}
-use Rattle.mt_path.specs.AccountPath.{AccountPath}
-use Rattle.mt_path.specs.declared.area.Area.{Area}
-use Rattle.mt_path.specs.declared.area.Area.TheVariants.{Stor, Public, Jobs}
+use Rattle.mt_model.specs.Types.{AccountPath, Area, Jobs, NUMBERS_A_COMMAND, Public, Stor}
 use Rattle.mt_model.specs.Limits.{longest_root}
-use Rattle.mt_types.specs.declared.limits.TheConstants.{NUMBERS_A_COMMAND}
 use Rattle.mt_model.specs.Listing.{name_of}
 
 -- the number of what a command makes: its position, and an index within the command
@@ -43,7 +40,11 @@ abbrev pub anonymous_place : ℕ → List ℕ → ℕ → ℕ → AccountPath
 anonymous_place job root phase number =
     record { area = Jobs; parts = job_name job ∷ codes "stor" ∷ (output_prefix root phase ++ identifier_text 3 number) ∷ [] }
 
--- the number of the identifier of an output that a name ends in, if it ends in one
+-- a path where only outputs without a place stand, where its name ends in an identifier of an output
+abbrev pub output_path : List ℕ → List ℕ → AccountPath
+output_path id name = record { area = Jobs; parts = id ∷ codes "stor" ∷ name ∷ [] }
+
+-- a name ends in the identifier of an output
 abbrev pub ends_in_output : List ℕ → Bool
 ends_in_output name = is_some (identifier_number 3 (drop (length name - 36) name))
 

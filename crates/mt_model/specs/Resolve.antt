@@ -1,18 +1,10 @@
 -- What a commit makes of the records of a task.
 use Rattle.std.specs.Prelude.{ℕ, ◌+◌, Bool, not, ◌&&◌, List, [], ◌∷◌, ◌++◌, codes, Option, Some, None, is_some, Result, Ok, Err, if◌then◌else◌}
 use Rattle.std.specs.List.{fold, list_any}
-use Rattle.mt_path.specs.AccountPath.{AccountPath}
-use Rattle.mt_types.specs.declared.job.Item.{Item}
-use Rattle.mt_types.specs.declared.job.Outcome.{Outcome}
+use Rattle.mt_model.specs.Types.{AccountPath, Emit, Fate, Item, Keep, Object, Outcome, Ref, TaskFailure, TaskObjectMissing, TaskPlaceRefused, TaskRecord}
 use Rattle.mt_types.specs.declared.job.Outcome.TheVariants as outcome
 use Rattle.mt_types.specs.declared.object.Entry.TheVariants as entry
-use Rattle.mt_types.specs.declared.object.Object.{Object}
-use Rattle.mt_types.specs.declared.task.Fate.{Fate}
 use Rattle.mt_types.specs.declared.task.Fate.TheVariants as fate
-use Rattle.mt_types.specs.declared.task.TaskFailure.{TaskFailure}
-use Rattle.mt_types.specs.declared.task.TaskFailure.TheVariants.{TaskPlaceRefused, TaskObjectMissing}
-use Rattle.mt_types.specs.declared.task.TaskRecord.{TaskRecord}
-use Rattle.mt_types.specs.declared.task.TaskRecord.TheVariants.{Emit, Keep, Ref}
 use Rattle.mt_model.specs.Names.{anonymous_place, is_task_place, number_at, paths_above}
 use Rattle.mt_model.specs.Rows.{Rows, at, with_row, is_directory, object_at}
 

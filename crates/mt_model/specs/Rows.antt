@@ -4,16 +4,9 @@ use Rattle.std.specs.BTreeMap.{is_at, insert_entry}
 use Rattle.std.specs.List.{filter}
 use Rattle.std.specs.List.Sorted.{IsStrictlySortedBy}
 use Rattle.std.specs.Map.{lookup, remove_entry, keys_of}
-use Rattle.mt_path.specs.AccountPath.{AccountPath, parent_of, root_of}
+use Rattle.mt_model.specs.Types.{AccountPath, Area, DirectoryDoesNotExist, DirectoryNotEmpty, DirectoryOperation, EntityExists, Entry, Jobs, LinkNotFound, LinkNotObject, NotFound, Object, ParentNotDirectory, Public, Refusal, RootDirectory, Row, Stor, parent_of, root_of}
 use Rattle.mt_path.specs.PathOrder.{path_cmp}
-use Rattle.mt_path.specs.declared.area.Area.{Area}
-use Rattle.mt_path.specs.declared.area.Area.TheVariants.{Stor, Public, Jobs}
-use Rattle.mt_types.specs.declared.object.Entry.{Entry}
 use Rattle.mt_types.specs.declared.object.Entry.TheVariants as entry
-use Rattle.mt_types.specs.declared.object.Object.{Object}
-use Rattle.mt_types.specs.declared.object.Row.{Row}
-use Rattle.mt_types.specs.declared.refusal.Refusal.{Refusal}
-use Rattle.mt_types.specs.declared.refusal.Refusal.TheVariants.{RootDirectory, DirectoryDoesNotExist, ParentNotDirectory, DirectoryOperation, EntityExists, NotFound, DirectoryNotEmpty, LinkNotFound, LinkNotObject}
 
 -- paths, each with what stands there, in the order of the paths
 abbrev pub Rows : Type 0 → Type 0

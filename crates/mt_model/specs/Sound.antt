@@ -1,10 +1,9 @@
--- What holds of the trace of every job.
+-- What holds of the trace of every job of a lawful state.
 use Rattle.std.specs.Prelude.{◌≡◌, ℕ, true, false, map, take, Some, IsSome}
 use Rattle.std.specs.List.{slice_get}
 use Rattle.std.specs.List.Sorted.{IsStrictlySortedBy}
 use Rattle.std.specs.Ordering.{nat_cmp}
-use Rattle.mt_types.specs.declared.job.Job.{Job}
-use Rattle.mt_types.specs.declared.job.TraceEntry.{TraceEntry}
+use Rattle.mt_model.specs.Types.{Job, TraceEntry}
 use Rattle.mt_model.specs.Tasks.{is_task, is_committed, all_complete}
 
 module _ {B : Type 0} where

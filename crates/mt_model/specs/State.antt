@@ -1,8 +1,7 @@
 -- The state of an account, whatever a body is.
 use Rattle.std.specs.Prelude.{ℕ, ◌==◌, List, [], map, Option, if◌then◌else◌}
 use Rattle.std.specs.List.{find}
-use Rattle.mt_types.specs.declared.job.Job.{Job}
-use Rattle.mt_types.specs.declared.upload.Upload.{Upload}
+use Rattle.mt_model.specs.Types.{Job, Upload}
 use Rattle.mt_model.specs.Rows.{Rows, first_rows}
 
 -- what the commands so far have made

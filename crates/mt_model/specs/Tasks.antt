@@ -2,23 +2,9 @@
 use Rattle.std.specs.Prelude.{ℕ, ◌%◌, ◌==◌, Bool, true, false, not, ◌&&◌, nat_lt, List, [], ◌∷◌, ◌++◌, map, length, take, drop, Option, Some, None, is_some}
 use Rattle.std.specs.List.{slice_get, filter, flat_map, list_any, list_all, enumerate_from, range_with_len, zip}
 use Rattle.std.specs.Option.{unwrap_or, option_map}
-use Rattle.mt_path.specs.AccountPath.{path_text, slash}
-use Rattle.mt_types.specs.declared.document.Phase.{Phase}
-use Rattle.mt_types.specs.declared.document.PhaseKind.{PhaseKind}
-use Rattle.mt_types.specs.declared.document.PhaseKind.TheVariants.{Map, Reduce}
-use Rattle.mt_types.specs.declared.job.Item.{Item}
-use Rattle.mt_types.specs.declared.job.Job.{Job}
-use Rattle.mt_types.specs.declared.job.Task.{Task}
-use Rattle.mt_types.specs.declared.job.TraceEntry.{TraceEntry}
-use Rattle.mt_types.specs.declared.task.Asset.{Asset}
-use Rattle.mt_types.specs.declared.task.Run.{Run}
+use Rattle.mt_model.specs.Types.{Asset, Item, Job, Map, Phase, PhaseKind, Reduce, Run, Task, TraceEntry, path_text, slash}
 use Rattle.mt_model.specs.Feed.{feed}
 use Rattle.mt_model.specs.Names.{job_stor, output_prefix, root_of_reducer}
-
--- the first item, if there is one
-abbrev pub first_in : {X : Type 0} → List X → Option X
-first_in [] = None
-first_in (x ∷ xs) = Some x
 
 -- the number of a reducer
 abbrev pub reducer_at : PhaseKind → ℕ → Option ℕ

@@ -3,18 +3,8 @@ use Rattle.std.specs.Prelude.{ℕ, ◌==◌, Bool, true, false, not, ◌||◌, n
 use Rattle.std.specs.List.{enumerate_from, filter_map, find, list_all, sum_by}
 use Rattle.std.specs.Option.{option_map_or}
 use Rattle.std.specs.Ordering.{match_ordering, nat_cmp}
-use Rattle.mt_path.specs.AccountPath.{AccountPath}
-use Rattle.mt_path.specs.declared.area.Area.{Area}
-use Rattle.mt_path.specs.declared.area.Area.TheVariants.{Stor, Public, Jobs}
+use Rattle.mt_model.specs.Types.{Aborted, AccountPath, Area, Committed, Jobs, LARGEST_BODY, Object, Open, PartRow, Public, Refusal, RootDirectory, Stage, Stor, Upload, UploadNotFound, UploadPart, UploadState, UploadTooLarge}
 use Rattle.mt_types.specs.declared.object.Entry.TheVariants as entry
-use Rattle.mt_types.specs.declared.object.Object.{Object}
-use Rattle.mt_types.specs.declared.refusal.Refusal.{Refusal}
-use Rattle.mt_types.specs.declared.refusal.Refusal.TheVariants.{RootDirectory, UploadNotFound, UploadState, UploadPart, UploadTooLarge}
-use Rattle.mt_types.specs.declared.upload.PartRow.{PartRow}
-use Rattle.mt_types.specs.declared.upload.Stage.{Stage}
-use Rattle.mt_types.specs.declared.upload.Stage.TheVariants.{Open, Committed, Aborted}
-use Rattle.mt_types.specs.declared.upload.Upload.{Upload}
-use Rattle.mt_types.specs.declared.limits.TheConstants.{LARGEST_BODY}
 use Rattle.mt_model.specs.Names.{number_at}
 use Rattle.mt_model.specs.Rows.{Rows, first_refusal, is_root, put_refusal, refuse_if, with_row}
 use Rattle.mt_model.specs.State.{State, with_upload}

@@ -1,24 +1,26 @@
 //! Laws of the definitions: what holds over references holds over the bytes that they stand for, each allowed
 //! command keeps a state lawful, and finished jobs are what their phases mean.
-ghost use Rattle.std.specs.Prelude.{◌≡◌, ◌++◌, ℕ, Bool, List, Option, true};
-ghost use Rattle.mt_path.specs.AccountPath.{AccountPath, IsPath};
-ghost use Rattle.mt_types.specs.declared.command.Command.TheVariants.{Put, MakeDirectory, Link, Delete, NewJob, AddInputs, EndInput, Commit, Finish, Cancel, Close, NewUpload, PutPart, CommitUpload, AbortUpload};
+ghost use Rattle.std.specs.Prelude.{◌≡◌, ◌++◌, ℕ, Bool, List, Option, Some, map, true};
+ghost use Rattle.std.specs.List.{Contains};
+ghost use Rattle.std.specs.Option.{option_map};
 ghost use Rattle.mt_types.specs.Limits.{is_index};
-ghost use Rattle.mt_types.specs.declared.body.Body.{Body};
-ghost use Rattle.mt_types.specs.declared.command.Archive.{Archive};
+ghost use Rattle.mt_types.specs.Values.{fate_with, item_with, job_with};
 ghost use Rattle.mt_types.specs.WellMade.{IsDocument, IsWellMadeFate};
-ghost use Rattle.mt_types.specs.declared.document.InputLine.{InputLine};
-ghost use Rattle.mt_types.specs.declared.document.JobDocument.{JobDocument};
-ghost use Rattle.mt_types.specs.declared.object.Field.{Field};
-ghost use Rattle.mt_model.specs.Lawful.{Lawful};
-ghost use Rattle.mt_types.specs.declared.command.Command.{Command};
-ghost use Rattle.mt_types.specs.declared.task.Fate.{Fate};
-ghost use Rattle.mt_types.specs.declared.task.Raw.{Raw};
-ghost use Rattle.mt_model.specs.CommandStep.{replay};
+ghost use Rattle.mt_model.specs.Types.{AbortUpload, AccountPath, AddInputs, Archive, Body, Cancel, Close, Command, Commit, CommitUpload, Delete, EndInput, Fate, Field, Finish, InputLine, IsPath, Item, Job, JobDocument, Link, MakeDirectory, NewJob, NewUpload, Object, PhaseKind, Put, PutPart, Raw, TraceEntry};
+ghost use Rattle.mt_model.specs.Bodies.{OfState, resolved_with, rows_with, state_with};
+ghost use Rattle.mt_model.specs.CommandStep.{replay, step};
+ghost use Rattle.mt_model.specs.Feed.{feed, items_of};
 ghost use Rattle.mt_model.specs.Finished.{FinishedJobsMean};
 ghost use Rattle.mt_model.specs.Honest.{Bytes, Honest, HonestFrom};
+ghost use Rattle.mt_model.specs.Keeping.{KeepsLimits, SaysWithin};
+ghost use Rattle.mt_model.specs.Laws.{AllowedIsRead, AllowedOfHeld, IsSharedOnce, KeepsLawful, MeaningIsRead, Reading, ReplayIsRead, TakenFrom};
+ghost use Rattle.mt_model.specs.Lawful.{Lawful};
+ghost use Rattle.mt_model.specs.Listing.{listing, result_set_size};
+ghost use Rattle.mt_model.specs.Names.{ends_in_output, output_path};
+ghost use Rattle.mt_model.specs.Resolve.{Committing, resolve};
+ghost use Rattle.mt_model.specs.Rows.{Rows, object_at};
 ghost use Rattle.mt_model.specs.State.{State, first_state};
-ghost use Rattle.mt_model.specs.Laws.{ReplayIsRead, AllowedIsRead, ListingIsRead, SizeIsRead, FeedIsRead, ShareIsRead, ReadyIsRead, FinishIsRead, RunIsRead, InputIsRead, ResolveIsRead, MeaningIsRead, StatesAgree, KeepsLawful, AllowedOfHeld, HistoriesAreLawful, IsSharedOnce, ReplayGoesOn, RowsKeepLimits};
+ghost use Rattle.mt_model.specs.Tasks.{input_of, ready, run_of, share, waits_finish};
 
 /// A history over references does what the same history over bytes does, and is refused for the same causes.
 pub fn history_is_read()
@@ -29,24 +31,24 @@ pub fn history_is_read()
 
 /// A history goes on from where its front leads.
 pub fn replay_goes_on()
-    ensures { ReplayGoesOn }
+    ensures { (s : State Body) (cs ds : List (Command Body)) → replay s (cs ++ ds) ≡ replay (replay s cs) ds }
 {}
 
 /// So do listings.
 pub fn listing_is_read()
-    ensures listing { ListingIsRead }
-    ensures size { SizeIsRead }
+    ensures listing { (read : Reading) (rows : Rows Body) (d : AccountPath) (marker : List ℕ) (limit : ℕ) → listing (rows_with read rows) d marker limit ≡ rows_with read (listing rows d marker limit) }
+    ensures size { (read : Reading) (rows : Rows Body) (d : AccountPath) → result_set_size (rows_with read rows) d ≡ result_set_size rows d }
 {}
 
 /// And jobs: their feeds, their shares, their tasks, what each is run with and reads, and what their phases mean.
 pub fn job_is_read()
-    ensures feed { FeedIsRead }
-    ensures share { ShareIsRead }
-    ensures ready { ReadyIsRead }
-    ensures finish { FinishIsRead }
-    ensures run { RunIsRead }
-    ensures input { InputIsRead }
-    ensures resolve { ResolveIsRead }
+    ensures feed { (read : Reading) (j : Job Body) (phase : ℕ) → feed (job_with read j) phase ≡ map (item_with read) (feed j phase) }
+    ensures share { (read : Reading) (items : List (Item Body)) (count reducer : ℕ) → share (map (item_with read) items) count reducer ≡ map (item_with read) (share items count reducer) }
+    ensures ready { (read : Reading) (j : Job Body) → ready (job_with read j) ≡ ready j }
+    ensures finish { (read : Reading) (j : Job Body) → waits_finish (job_with read j) ≡ waits_finish j }
+    ensures run { (read : Reading) (login : List ℕ) (j : Job Body) (phase place : ℕ) → run_of (λ bytes. bytes) login (job_with read j) phase place ≡ run_of read login j phase place }
+    ensures input { (read : Reading) (kind : PhaseKind) (items : List (Item Body)) (place : ℕ) → input_of (λ bytes. bytes) kind (map (item_with read) items) place ≡ input_of read kind items place }
+    ensures resolve { (read : Reading) (c : Committing) (rows : Rows Body) (x : Fate Body) → resolve c (rows_with read rows) (fate_with read x) ≡ resolved_with read (resolve c rows x) }
     ensures meaning { MeaningIsRead }
 {}
 
@@ -57,12 +59,13 @@ pub fn places_are_shared_once()
 
 /// States whose bodies read the same are the same.
 pub fn states_agree()
-    ensures { StatesAgree }
+    ensures { (f g : Reading) (s : State Body) → OfState (λ b. f b ≡ g b) s → state_with f s ≡ state_with g s }
 {}
 
-/// A command on rows that says what is within the limits keeps a state within them.
-pub fn rows_keep_limits()
-    ensures { RowsKeepLimits }
+/// The first state is within the limits of values, and each command that says what is within them keeps it so.
+pub fn commands_keep_limits()
+    ensures first { let s : State Body = first_state in KeepsLimits s }
+    ensures step { (s : State Body) (c : Command Body) → KeepsLimits s → SaysWithin c → KeepsLimits (step s c) }
 {}
 
 /// The first state is lawful.
@@ -92,7 +95,17 @@ pub fn commands_keep_lawful()
 
 /// A history whose commands are well made and allowed leads from a lawful state to a lawful state.
 pub fn histories_are_lawful()
-    ensures { HistoriesAreLawful }
+    ensures { (s : State Body) (h : List (Command Body)) → Lawful s → TakenFrom s h → Lawful (replay s h) }
+{}
+
+/// An object at the path of an output without a place stays, whatever commands follow; and each output of a committed
+/// task that has such a path has its body there. So those of a job keep their bodies for good.
+pub fn outputs_stay()
+    ensures stays { (h more : List (Command Body)) → TakenFrom first_state h → TakenFrom (replay first_state h) more → (id name : List ℕ) (o : Object Body) → ends_in_output name ≡ true
+        → object_at (replay first_state h).rows (output_path id name) ≡ Some o → object_at (replay (replay first_state h) more).rows (output_path id name) ≡ Some o }
+    ensures bodies { (h : List (Command Body)) → TakenFrom first_state h → (job : Job Body) (e : TraceEntry Body) (i : Item Body)
+        → Contains (replay first_state h).jobs job → Contains job.trace e → Contains (items_of e.outcome) i → (id name : List ℕ) → ends_in_output name ≡ true → i.name ≡ output_path id name
+        → option_map (λ o. o.body) (object_at (replay first_state h).rows i.name) ≡ Some i.body }
 {}
 
 /// What starts children.

@@ -7,4 +7,4 @@ use Rattle.mt_model.proofs.worked.closed_job.Goals as goal
 
 pub returns : goal.returns
 unfolding allowed change replay step identifier_text by_index digits
-returns c = record { numbers = refl; bodies = refl; children = refl; early = refl; stopped = refl; again = refl }
+returns c = record { numbers = refl; bodies = refl; types = refl; children = refl; position = refl; early = refl; stopped = refl; again = refl }

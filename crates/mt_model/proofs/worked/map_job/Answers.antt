@@ -7,4 +7,4 @@ use Rattle.mt_model.proofs.worked.map_job.Goals as goal
 
 pub returns : goal.returns
 unfolding allowed change replay step identifier_text by_index digits
-returns c = record { inputs = refl; missing = refl; first = refl; again = refl; beyond = refl; waits = refl; position = refl }
+returns c = record { inputs = refl; missing = refl; first = refl; again = refl; beyond = refl; waits = refl; position = refl; unended = refl; early = refl; no_job = refl; ended = refl }

@@ -7,4 +7,4 @@ use Rattle.mt_model.proofs.worked.order_of_commits_decides_shares.Goals as goal
 
 pub returns : goal.returns
 unfolding allowed change replay step identifier_text by_index digits
-returns c = record { early = refl; ready = refl; even = refl; odd = refl }
+returns c = record { early = refl; before_the_last = refl; ready = refl; even = refl; odd = refl }

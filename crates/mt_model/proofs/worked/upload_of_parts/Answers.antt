@@ -7,4 +7,4 @@ use Rattle.mt_model.proofs.worked.upload_of_parts.Goals as goal
 
 pub returns : goal.returns
 unfolding allowed change replay step identifier_text by_index digits
-returns c = record { number = refl; body = refl; order = refl; front = refl; empty = refl; other = refl; closed = refl; in_jobs = refl }
+returns c = record { parts = refl; order = refl; again = refl; front = refl; other = refl; at_directory = refl; no_path = refl }

@@ -1,0 +1,10 @@
+use Rattle.std.proofs.Common.{refl}
+use Rattle.std.specs.Fmt.{digits}
+use Rattle.uuid.specs.Text.{by_index}
+use Rattle.mt_ident.specs.Identifiers.{identifier_text}
+use Rattle.mt_model.specs.CommandStep.{allowed, change, replay, step}
+use Rattle.mt_model.proofs.worked.ends_of_uploads.Goals as goal
+
+pub returns : goal.returns
+unfolding allowed change replay step identifier_text by_index digits
+returns c = record { number = refl; body = refl; content_type = refl; committed = refl; closed = refl; empty = refl; nothing = refl; aborted = refl; taken = refl; free = refl }
