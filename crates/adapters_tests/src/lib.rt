@@ -1,8 +1,5 @@
-//! What data can't show of `mt_adapters`: real files, streams and sockets, the system's clock, and readers, writers and clocks
-//! that fail.
+//! What neither data nor a script can show of `mt_adapters`: calls that no program makes, and readers, writers and clocks that fail.
 #![tactic(auto)]
 
-#[cfg(test)]
-mod tcp;
 #[cfg(test)]
 mod tests;

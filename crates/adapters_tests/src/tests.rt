@@ -1,9 +1,8 @@
-//! The adapters over real files, and over readers, writers and clocks that fail.
-use mt_adapters::{Counted, FileDisk, StdSink, StdSource, SystemClock};
+//! A file disk's refusals, and readers, writers and clocks that fail.
+use mt_adapters::{Counted, FileDisk, SystemClock};
 use mt_disk::{Disk, DiskFault, FileNo};
 use mt_edge::{Clock, LAST_MOMENT, ReadStep, Source, write_all};
 use std::alloc::Global;
-use std::fs::{File, OpenOptions};
 use std::io::{ErrorKind, Read, Write};
 use std::test::Fail;
 use std::time::Duration;
@@ -15,46 +14,10 @@ fn scratch(rt: &HostRuntime, name: &str) -> Result<String, Fail> {
     Ok(format!(in rt.alloc(); "/tmp/mt_adapters_{name}_{moment}")?)
 }
 
-fn exists(rt: &HostRuntime, folder: &str, name: &str) -> Result<bool, Fail> {
-    let path = format!(in rt.alloc(); "{folder}/{name}")?;
-    Ok(fs::metadata(rt, &path).is_ok())
-}
-
 fn write_and_sync<D: Disk>(disk: &mut D, piece: &[u8]) -> Result<u64, DiskFault> {
     disk.write_at(FileNo::One, 0, piece)?;
     disk.sync(FileNo::One)?;
     disk.len(FileNo::One)
-}
-
-#[test]
-fn a_file_disk_keeps_what_is_written(rt: HostRuntime) -> Result<(), Fail> {
-    let alloc = rt.alloc();
-    let folder = scratch(&rt, "keeps")?;
-    let mut disk = FileDisk::new(alloc, rt, &folder)?;
-    assert!(rt; !exists(&rt, &folder, "")?, "making it makes no folder");
-    assert_eq!(rt; disk.len(FileNo::Two), Ok(0));
-    for name in ["head", "log1", "log2"] {
-        assert!(rt; exists(&rt, &folder, name)?, "{name}");
-    }
-
-    assert_eq!(rt; write_and_sync(&mut disk, b"hello, disk"), Ok(11));
-    assert!(rt; disk.write_at(FileNo::One, 7, b"DISK AND MORE").is_ok());
-    assert!(rt; disk.write_at(FileNo::Head, 0, b"1").is_ok());
-    assert!(rt; disk.cut(FileNo::One, 12).is_ok());
-    assert!(rt; disk.sync(FileNo::One).is_ok());
-    assert_eq!(rt; disk.faults(), 0);
-
-    // It is opened again when its owner is gone.
-    drop(disk);
-    let mut into = [0; 5];
-    let mut again = FileDisk::new(alloc, rt, &folder)?;
-    assert_eq!(rt; again.len(FileNo::One), Ok(12));
-    assert!(rt; again.read(FileNo::One, 7, &mut into).is_ok());
-    assert_eq!(rt; into.as_slice(), b"DISK ".as_slice());
-    assert_eq!(rt; again.len(FileNo::Head), Ok(1));
-    assert_eq!(rt; again.faults(), 0);
-    fs::remove_dir_all(&rt, &folder)?;
-    Ok(())
 }
 
 #[test]
@@ -73,20 +36,6 @@ fn a_call_that_does_not_fit_changes_nothing(rt: HostRuntime) -> Result<(), Fail>
     assert_eq!(rt; disk.len(FileNo::One), Ok(6));
     assert_eq!(rt; disk.faults(), 3);
     fs::remove_dir_all(&rt, &folder)?;
-    Ok(())
-}
-
-#[test]
-fn a_folder_that_cannot_be_made_is_a_fault(rt: HostRuntime) -> Result<(), Fail> {
-    let path = scratch(&rt, "fault")?;
-    File::create(&rt, &path)?.write_all(b"no folder")?;
-    let mut disk = FileDisk::new(rt.alloc(), rt, &path)?;
-    assert!(rt; disk.len(FileNo::Head).is_err());
-    assert!(rt; disk.sync(FileNo::One).is_err());
-    assert_eq!(rt; disk.faults(), 2);
-    fs::remove_file(&rt, &path)?;
-    let mut nowhere = FileDisk::new(rt.alloc(), rt, "")?;
-    assert!(rt; nowhere.len(FileNo::Head).is_err());
     Ok(())
 }
 
@@ -240,22 +189,6 @@ fn a_sink_that_takes_nothing_fails(rt: HostRuntime) -> Result<(), Fail> {
         assert_eq!(rt; write_all(&mut sink, b"hello").is_ok(), whole);
         assert_eq!(rt; sink.faults(), faults);
     }
-    Ok(())
-}
-
-#[test]
-fn real_streams_carry_bytes(rt: HostRuntime) -> Result<(), Fail> {
-    let alloc = rt.alloc();
-    let path = scratch(&rt, "stream")?;
-    let mut sink = Counted::of(File::create(&rt, &path)?);
-    assert!(rt; write_all(&mut sink, b"stream").is_ok());
-    let mut source = Counted::reading(alloc, OpenOptions::new().read(true).open(&rt, &path)?)?;
-    let (_, bytes) = read_through(alloc, &mut source)?;
-    assert_eq!(rt; bytes.as_slice(), b"stream".as_slice());
-    fs::remove_file(&rt, &path)?;
-    let input = StdSource::new(alloc, rt.stdin())?;
-    let output = StdSink::over(rt.stdout());
-    assert_eq!(rt; input.faults() + output.faults(), 0);
     Ok(())
 }
 

@@ -1,10 +1,9 @@
 //! `body_rows`: bodies that are stored, read and sent, row by row. Its stored run is their table of cases.
 //!
-//! - `state`: the log, the source and the body that rows speak of. `untold`: a disk whose next calls fail by their numbers.
+//! - `state`: the log, the source and the body that rows speak of.
 #![tactic(auto)]
 
 mod state;
-mod untold;
 
 use mt_rows::print_table;
 use state::Bodies;

@@ -1,17 +1,24 @@
 //! The log, the source and the body that rows speak of.
-use crate::untold::Untold;
 use md5::{Digest, Md5};
 use mt_body::{Storing, digest_rest, read_body, send_body, store};
-use mt_disk::FileNo;
+use mt_disk::{FileNo, Room};
 use mt_edge::{MemSink, MemSource};
 use mt_log::Log;
 use mt_rows::{Row, Rows, Stop};
 use mt_types::Body;
+use mt_untold::Untold;
 use std::alloc::{AllocError, Global};
 use std::mem;
 
 /// The most bytes of a source, of a part and of a sink.
 const MOST: u64 = 1_200_000;
+
+/// The room of a disk: a body of 1,000,000 bytes, and more.
+const ROOM: Room = Room {
+    file: 1_200_000,
+    calls: 256,
+    written: 1_200_000,
+};
 
 /// A log over a disk, a source, and the body that was stored last.
 #[derive(Drop)]
@@ -161,7 +168,7 @@ impl Bodies {
 
     // A new log under a limit.
     fn open(&mut self, alloc: Global, row: &Row, out: &mut String) -> Result<(), Stop> {
-        let mut disk = Untold::new(alloc)?;
+        let mut disk = Untold::new(alloc, ROOM)?;
         match Log::open(alloc, &mut disk, row.number(1)?) {
             Ok(log) => {
                 write!(out, "Ok({})", log.len())?;
@@ -179,10 +186,10 @@ impl Bodies {
         let (Some(disk), Some(log)) = (&mut self.disk, &mut self.log) else {
             return Err(Stop::NoSuchRow);
         };
-        match (row.call(), &self.body) {
-            (b"fail", _) => disk.fail(row.numbers(alloc, 1)?),
-            (b"one", _) => put_bytes(out, disk.file(FileNo::One))?,
-            (b"store", _) => {
+        match (row.text(0)?, &self.body) {
+            ("fail", _) => disk.fail(row.numbers(alloc, 1)?),
+            ("one", _) => put_bytes(out, disk.file(FileNo::One))?,
+            ("store", _) => {
                 let mut source = mem::replace(
                     &mut self.source,
                     MemSource::new(alloc, Vec::new(alloc)),
@@ -198,8 +205,8 @@ impl Bodies {
                     self.body = body;
                 }
             }
-            (b"part", Some(body)) => put_part(alloc, disk, log, body, row, out)?,
-            (b"send", Some(body)) => put_sent(alloc, disk, log, body, row, out)?,
+            ("part", Some(body)) => put_part(alloc, disk, log, body, row, out)?,
+            ("send", Some(body)) => put_sent(alloc, disk, log, body, row, out)?,
             _ => return Err(Stop::NoSuchRow),
         }
         Ok(())
@@ -214,9 +221,9 @@ impl Rows for Bodies {
         row: &Row,
         out: &mut String,
     ) -> Result<(), Stop> {
-        match row.call() {
-            b"open" => self.open(alloc, row, out),
-            b"source" => {
+        match row.text(0)? {
+            "open" => self.open(alloc, row, out),
+            "source" => {
                 self.source = source_of(alloc, row)?;
                 Ok(())
             }
