@@ -12,6 +12,7 @@ pub mod Held
 pub mod Keeping
 pub mod EachStep
 pub mod Within
+pub mod Stored
 pub mod Replays
 pub mod Words
 pub mod LawfulRows

@@ -40,7 +40,8 @@ pub fn listing_is_read()
     ensures size { (read : Reading) (rows : Rows Body) (d : AccountPath) → result_set_size (rows_with read rows) d ≡ result_set_size rows d }
 {}
 
-/// And jobs: their feeds, their shares, their tasks, what each is run with and reads, and what their phases mean.
+/// And jobs: their feeds, their shares, their tasks, what each is run with and reads; and what their phases mean over
+/// references they mean over bytes.
 pub fn job_is_read()
     ensures feed { (read : Reading) (j : Job Body) (phase : ℕ) → feed (job_with read j) phase ≡ map (item_with read) (feed j phase) }
     ensures share { (read : Reading) (items : List (Item Body)) (count reducer : ℕ) → share (map (item_with read) items) count reducer ≡ map (item_with read) (share items count reducer) }
