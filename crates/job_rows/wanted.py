@@ -1,8 +1,11 @@
 #!/usr/bin/env python3
-"""Prints the table of job_rows with the wanted answers: documents are judged by Python's json, lines by its hashlib, tasks by plain lists."""
+"""Prints the table of job_rows with the wanted answers: documents are judged by Python's json, lines by its hashlib,
+tasks by plain lists, records by its struct."""
 import hashlib
 import json
 import random
+import re
+import struct
 
 
 def escaped(data):
@@ -19,7 +22,9 @@ def answered(data):
 
 
 def word(data):
-    return escaped(data).replace(" ", "\\s") or "\\e"
+    """Bytes as a word: a run of more than 40 times one byte is said as such."""
+    runs = re.sub(r"((\w)\2{40,})", lambda it: f"\\*{len(it[1])}.{it[2]}", escaped(data).replace(" ", "\\s"))
+    return runs or "\\e"
 
 
 def row(call, answer):
@@ -328,6 +333,214 @@ def chosen(queues, count):
             queues.play(f"feed {place[:-2]}" if step == "feed" else f"{'task' if step == 'task' else 'commit'} {place}")
 
 
+# ---- records (mt_records), laid out by struct
+
+def text_field(data):
+    return struct.pack(">H", len(data)) + data
+
+
+def emit(place=None, reducer=None):
+    flags = b"\0" if place is None else b"\1" + text_field(place)
+    return b"\1" + flags + (b"\0" if reducer is None else b"\1" + struct.pack(">I", reducer))
+
+
+def keep(place):
+    return b"\2" + text_field(place)
+
+
+def ref(name):
+    return b"\3" + text_field(name)
+
+
+def ended(head, body=b""):
+    return head + body + b"MREC" + struct.pack(">Q", len(body))
+
+
+class Cut(Exception):
+    pass
+
+
+def head_in(data):
+    """The fields of a head, each byte of it; none where it is none."""
+    at = 0
+
+    def take(n):
+        nonlocal at
+        if at + n > len(data):
+            raise Cut
+        at += n
+        return data[at - n:at]
+
+    def text():
+        piece = take(struct.unpack(">H", take(2))[0])
+        if len(piece) > 1200:
+            raise Cut
+        piece.decode("utf-8")
+        return piece
+
+    def optional(read):
+        flag = take(1)
+        if flag not in (b"\0", b"\1"):
+            raise Cut
+        return read() if flag == b"\1" else None
+
+    try:
+        kind = take(1)[0]
+        if kind == 1:
+            found = ("emit", optional(text), optional(lambda: struct.unpack(">I", take(4))[0]))
+        elif kind in (2, 3):
+            found = ("keep" if kind == 2 else "ref", text(), None)
+        else:
+            return None
+    except (Cut, UnicodeDecodeError):
+        return None
+    return found if at == len(data) else None
+
+
+def record(data):
+    """The head, where its body begins and the body, or why there is no record."""
+    if len(data) < 13 or data[-12:-8] != b"MREC":
+        return "Torn"
+    n = struct.unpack(">Q", data[-8:])[0]
+    if n > len(data) - 12:
+        return "Torn"
+    at = len(data) - 12 - n
+    head = head_in(data[:at])
+    if head is None or (head[0] == "ref" and n > 0):
+        return "Malformed"
+    return head, at, data[at:at + n]
+
+
+def dash(value):
+    return "-" if value is None else value if isinstance(value, str) else answered(value) if isinstance(value, bytes) else str(value)
+
+
+def decode_row(data):
+    found = record(data)
+    if not isinstance(found, str):
+        (kind, text, reducer), _, body = found
+        found = f"{kind} {dash(text)}" + (f" {dash(reducer)}" if kind == "emit" else "") + f" [{answered(body)}]"
+    row(f"decode {word(data)}", found)
+
+
+def fronts_row(data):
+    letters = [record(data[:n]) for n in range(len(data) + 1)]
+    row(f"fronts {word(data)}", "".join(it[0] if isinstance(it, str) else "R" for it in letters))
+
+
+def fate_of(status, out, files):
+    """The records, or the failure. A file is a number and bytes."""
+    if status:
+        return "UserTaskError"
+    if out + sum(len(data) for _, data in files) > 16777216:
+        return "TaskOutputTooLarge"
+    numbers = [number for number, _ in files]
+    found = [record(data) for _, data in files]
+    if numbers != sorted(set(numbers)) or any(it > 4094 for it in numbers) or any(isinstance(it, str) for it in found):
+        return "TaskRecordError"
+    records = [(kind, text, reducer, f"file{place}+{at}+{len(body)}") for place, ((kind, text, reducer), at, body) in enumerate(found)]
+    if not any(it[0] in ("emit", "ref") for it in records):
+        records.append(("emit", None, None, f"out+0+{out}"))
+    if len(records) > 4095:
+        return "TaskRecordError"
+    for kind, text, _, _ in records:
+        if text is not None and path(text.decode()) is None:
+            return "TaskObjectMissing" if kind == "ref" else "TaskPlaceRefused"
+    return records
+
+
+def shown_record(kind, text, reducer, body):
+    name = "-" if text is None else answered(path(text.decode()).encode())
+    return f"; {kind} {name}" + (f" {dash(reducer)}" if kind == "emit" else "") + ("" if kind == "ref" else f" {body}")
+
+
+def fate_row(files, status=0, stderr=b"", out=0):
+    fate = fate_of(status, out, files)
+    if isinstance(fate, str):
+        answer = f"{fate} {status} [{answered(stderr[:1024])}]"
+    else:
+        answer = f"Good {len(fate)}" + "".join(shown_record(*it) for it in fate)
+    row(f"fate {status} {word(stderr)} {out}" + "".join(f" {number} {word(data)}" for number, data in files), answer)
+
+
+def copies_row(count, data):
+    fate = fate_of(0, 0, [(number, data) for number in range(count)])
+    row(f"copies {count} {word(data)}", fate if isinstance(fate, str) else f"Good {len(fate)}")
+
+
+LONG = b"/l/stor/" + b"x" * 1192  # 1,200 bytes: a text, and no path
+
+
+def records_rows():
+    print("\n# Heads of records (mt_records), laid out by Python's struct. A dash is for none.")
+    for place, reducer in ((None, None), (b"/l/stor/p/q", None), (None, 0), (b"~~/stor/a", 4294967295), (b"", 7), (LONG, 1), (b"/l/public/x", 2)):
+        row(f"encode emit {'-' if place is None else word(place)} {'-' if reducer is None else reducer}", answered(emit(place, reducer)))
+    for place in (b"/l/stor/k", b"", "/l/stor/\u00e9".encode(), b"a b", LONG):
+        row(f"encode keep {word(place)}", answered(keep(place)))
+        row(f"encode ref {word(place)}", answered(ref(place)))
+    for count in (0, 1, 10, 16777216, 18446744073709551615):
+        row(f"end-bytes {count}", answered(ended(b"", b"")[:4] + struct.pack(">Q", count)))
+    print("\n# Records from the bytes of a file.")
+    for data in (ended(emit(), b"abc"), ended(emit()), ended(emit(b"/l/stor/p", 3), b"x y "), ended(emit(None, 0), b"\n"), ended(keep(b"/l/stor/k"), b"0123456789"), ended(ref(b"/l/stor/none")),
+                 ended(keep(b"")), ended(ref(b"")), ended(keep(LONG)), ended(emit(LONG, 4294967295), b"z"), ended(emit(b"no path"), b""), ended(emit(b"/l/public/x", 2), b"hi")):
+        decode_row(data)
+    print("\n# Bytes in a body that spell an end, or a record, are bytes.")
+    for body in (b"MREC", b"MREC" + struct.pack(">Q", 0), ended(emit(), b"in"), ended(ref(b"/l/stor/a")) * 2):
+        decode_row(ended(emit(), body))
+    print("\n# Torn: too short, another mark, a number above what there is.")
+    for data in (b"", b"M", ended(b""), ended(emit(), b"abc")[:-1], ended(emit(), b"abc") + b"\0", ended(emit())[:3] + b"MREX" + struct.pack(">Q", 0), ended(emit())[:3] + b"mrec" + struct.pack(">Q", 0),
+                 emit() + b"MREC" + struct.pack(">Q", 4), emit() + b"MREC" + struct.pack(">Q", 2**64 - 1), emit() + b"MREC" + struct.pack("<Q", 1), b"x" * 13, b"x" * 1300):
+        decode_row(data)
+    print("\n# Malformed: what stands before the body is not one head, or the body of a ref.")
+    for data in (ended(b"\4"), ended(b"\0"), ended(b"\1"), ended(b"\1\0"), ended(b"", b"abc"), ended(b"\1\2\0"), ended(b"\1\0\2"), ended(b"\1\0\1\0\0\0"), ended(b"\2\0\3ab"), ended(b"\2\0\1ab"),
+                 ended(emit() + b"\0", b"x"), ended(ref(b"/l/stor/a"), b"x"), ended(keep(b"\xff")), ended(keep(b"\xc0\x80")), ended(keep(LONG + b"x")), ended(emit(LONG, 1) + b"\0", b"x"), ended(b"\2" + b"\xff" * 2000)):
+        decode_row(data)
+    print("\n# Each front of a file, from none of it to all: torn (T), malformed (M), a record (R).")
+    for data in (ended(emit(b"/l/stor/p", 3), b"body"), ended(ref(b"/l/stor/a")), ended(keep(b"k"), b""), ended(emit(), ended(emit(), b"in")), ended(keep(b"k"), b"MREC" + struct.pack(">Q", 0) + b"more"),
+                 ended(emit(), b"MREC" + struct.pack(">Q", 5)), ended(b"\4", b"MREC" + struct.pack(">Q", 1) + b"x")):
+        fronts_row(data)
+    fates_rows()
+
+
+def fates_rows():
+    print("\n# Fates: records in order of number, bodies by their places in what was left.")
+    for files in ([], [(0, ended(emit(b"/l/stor/p/q")))], [(0, ended(keep(b"/l/stor/k")))], [(0, ended(ref(b"/l/stor/none")))], [(0, ended(emit(b"/l/stor/p"), b"ab")), (1, ended(ref(b"/l/stor/p")))],
+                  [(0, ended(emit(b"/m/stor/p")))], [(1, ended(emit())), (0, ended(emit()))], [(4095, ended(emit()))], [(4094, ended(emit(None, 9), b"abc"))], [(3, ended(keep(b"~~/public//a/"), b"x")), (7, ended(keep(b"/l/jobs/j/stor/b")))],
+                  [(2, ended(emit())), (2, ended(emit()))], [(0, ended(emit(), b"a" * 2000)), (9, ended(emit(None, 1), b"b"))]):
+        fate_row(files)
+    fate_row([], out=5)
+    fate_row([(0, ended(keep(b"/l/stor/k"), b"ab"))], out=7)
+    fate_row([(0, ended(ref(b"/l/stor/k")))], out=7)
+    print("\n# The first verdict: status, sizes, numbers and records, places and names in order of number.")
+    bad, gone, torn = ended(emit(b"/m/stor/p")), ended(ref(b"no")), b"torn"
+    fate_row([], status=1, stderr=b"no such file\n")
+    fate_row([(0, ended(emit(), b"x\n"))], status=3, stderr=b"bad\n")
+    fate_row([(5, torn), (4, torn)], status=255, out=99999999)
+    fate_row([], out=16777216)
+    fate_row([], out=16777217, stderr=b"x")
+    fate_row([(0, ended(emit()))], out=16777216 - 15)
+    fate_row([(0, ended(emit()))], out=16777216 - 14)
+    fate_row([(1, torn), (0, bad)], out=16777217)
+    fate_row([], out=18446744073709551615)
+    fate_row([(0, ended(emit())), (1, ended(emit()))], out=18446744073709551610)
+    fate_row([(1, ended(emit())), (0, torn)])
+    fate_row([(0, bad), (1, torn)])
+    fate_row([(0, bad), (1, ended(ref(b"/l/stor/a"), b"x"))])
+    fate_row([(0, bad), (1, gone)])
+    fate_row([(0, gone), (1, bad)], stderr=b"e" * 1100)
+    fate_row([(0, ended(keep(b"/l/stor"))), (1, ended(keep(b"/l/none/x")))])
+    for text in (b"", b"/", b"l/stor/a", b"~~", b"/l", b"/l/stor/../a", b"/l/stor/" + b"x" * 255, b"/l/stor/" + b"x" * 256, LONG):
+        fate_row([(0, ended(keep(text)))])
+    for size in (1023, 1024, 1025):
+        fate_row([], status=2, stderr=b"e" * size)
+    print("\n# Copies of one file, numbered from 0, and an empty standard output: at most 4,095 records, with that of standard output.")
+    for data in (ended(keep(b"/l/stor/k")), ended(emit()), ended(ref(b"/l/stor/k"))):
+        for count in (0, 1, 4094, 4095, 4096):
+            copies_row(count, data)
+    for count, data in ((4094, ended(keep(b"/m/stor/k"))), (4095, ended(keep(b"/m/stor/k"))), (4095, bad), (4095, torn), (4095, ended(emit(), b"x" * 4081)), (4095, ended(emit(), b"x" * 4083))):
+        copies_row(count, data)
+
+
 def main():
     print("# Job documents (mt_jobdoc), judged by Python's json. Names of assets are those of the login l.")
     for text in BY_HAND:
@@ -376,6 +589,7 @@ def main():
             queues.play(step.strip())
     print("\n# Chosen steps.")
     chosen(queues, 160)
+    records_rows()
 
 
 main()

@@ -1,11 +1,12 @@
 //! `job_rows`: the calls of the crates that jobs stand on, row by row. Its stored run is their table of cases.
 //!
-//! - `documents`: `mt_jobdoc`. `lines`: `mt_split`. `queues`: `mt_sched`.
+//! - `documents`: `mt_jobdoc`. `lines`: `mt_split`. `queues`: `mt_sched`. `records`: `mt_records`.
 #![tactic(auto)]
 
 mod documents;
 mod lines;
 mod queues;
+mod records;
 
 use mt_rows::{Row, Rows, Stop, print_table};
 use queues::Queues;
@@ -31,7 +32,7 @@ impl Rows for Jobs {
         {
             return Ok(());
         }
-        Err(Stop::NoSuchRow)
+        records::answer(alloc, row, out)
     }
 }
 

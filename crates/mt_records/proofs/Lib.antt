@@ -1,0 +1,12 @@
+pub mod Asked
+pub mod Decoded
+pub mod Ends
+pub mod Fates
+pub mod Heads
+pub mod Numbered
+pub mod Records
+pub mod Seen
+pub mod WellMade
+pub mod Whole
+pub mod Windows
+pub mod Within
