@@ -1,8 +1,8 @@
 -- The lines of a page, by what a page lends.
 use Rattle.std.proofs.Common.{◌≡◌, ℕ, Bool, true, false, cond, List, [], ◌∷◌, ◌++◌, map, take, zero, suc, ◌<◌, arith, refl, sym, ap, subst, ◌∙◌}
 use Rattle.std.specs.List.{All, AllByRecursion, filter, flat_map}
-use Rattle.mt_live.specs.LiveTexts.{IsEntryListable, page_text, row_line}
-use Rattle.mt_model.specs.Listing.{is_from, listing, name_of}
+use Rattle.mt_live.specs.LiveTexts.{IsEntryListable, page_text}
+use Rattle.mt_model.specs.Listing.{is_from, listing}
 use Rattle.mt_model.specs.Rows.{Rows, children, is_child, row_of}
 use Rattle.mt_path.specs.AccountPath.{AccountPath}
 use Rattle.mt_tree.specs.Lent.{lent}
@@ -10,20 +10,14 @@ use Rattle.mt_tree.specs.Walk.{listed_row}
 use Rattle.mt_tree.specs.declared.listing.Listed.{Listed}
 use Rattle.mt_types.specs.declared.body.Body.{Body}
 use Rattle.mt_types.specs.declared.object.Entry.{Entry}
-use Rattle.mt_types.specs.declared.object.Entry.TheVariants as entry
 use Rattle.mt_answer.specs.Judging.{len_of}
 use Rattle.mt_answer.specs.Laws.{AreListable}
 use Rattle.mt_answer.specs.Lines.{line_of}
 
-line_is : (p : AccountPath) (e : Entry Body) → row_line len_of (row_of (p, e)) ≡ line_of (name_of p, e)
-line_is p (entry.Directory mtime) = refl
-line_is p (entry.Object o) = refl
-
 -- the lines of rows are those of their names and entries
 lines : (rows : Rows Body) → page_text len_of (map row_of rows) ≡ flat_map line_of (map listed_row rows)
 lines [] = refl
-lines (r ∷ rows) =
-    ap (λ line. line ++ page_text len_of (map row_of rows)) (line_is r.0 r.1) ∙ ap (λ text. line_of (listed_row r) ++ text) (lines rows)
+lines (r ∷ rows) = ap (λ text. line_of (listed_row r) ++ text) (lines rows)
 
 pub page_lines : (rows : Rows Body) (page : List (Listed Body)) → map lent page ≡ map listed_row rows → flat_map line_of (map lent page) ≡ page_text len_of (map row_of rows)
 page_lines rows page same = ap (flat_map line_of) same ∙ sym (lines rows)

@@ -1,25 +1,26 @@
 //! The text of a page of a directory.
-ghost use Rattle.std.specs.Prelude.{◌≡◌, [], ◌∷◌, All, IfOk, map};
+ghost use Rattle.std.specs.Prelude.{◌≡◌, All, IfOk, map};
 ghost use Rattle.std.specs.List.{flat_map};
 ghost use Rattle.mt_live.specs.LiveTexts.{IsEntryListable, page_text};
 ghost use Rattle.mt_model.specs.Listing.{listing};
 ghost use Rattle.mt_model.specs.Rows.{row_of};
 ghost use Rattle.mt_path.specs.AccountPath.{IsComponent};
-ghost use Rattle.mt_path.specs.declared.area.Area.TheVariants.{Stor};
 ghost use Rattle.mt_tree.specs.Lent.{lent};
 ghost use Rattle.mt_answer.specs.Judging.{len_of};
 ghost use Rattle.mt_answer.specs.Laws.{AreListable};
-ghost use Rattle.mt_answer.specs.Lines.{line_of, plain_entry};
+ghost use Rattle.mt_answer.specs.Lines.{line_of};
 
-use mt_base::{Bytes, Duplicate, Sequence, Text};
-use mt_live::page_text;
-use mt_path::{Area, Path};
+use mt_base::Bytes;
+use mt_live::page_line;
+use mt_path::Path;
 use mt_request::Page;
 use mt_tree::{Listed, Tree};
-use mt_types::{Body, Entry, Object, Row};
+use mt_types::Body;
 use std::alloc::{AllocError, Global};
+use std::str;
 
-/// The text of a page of a directory: a line a child. It holds one row at a time beside the text.
+/// The text of a page of a directory: a line a child, of what the tree lends of it. It holds one line at a time beside
+/// the text, and copies no path and no metadata.
 pub fn page_of(
     alloc: Global,
     tree: &Tree<Body>,
@@ -42,48 +43,19 @@ fn text_of(alloc: Global, children: &[Listed<'_, Body>]) -> Result<Bytes, AllocE
 {
     let mut out = Vec::new(alloc);
     for child in children {
-        let line = line_of(alloc, child)?;
-        out.extend_from_slice(line.as_slice())?;
+        let line = page_line(alloc, name_of(child), child.entry)?;
+        out.extend_from_slice(line.as_bytes())?;
     }
     Ok(Bytes::from_vec(out))
 }
 
-// The line of a child.
-fn line_of(alloc: Global, child: &Listed<'_, Body>) -> Result<Bytes, AllocError>
-    requires name { IsComponent child.now.name.now }
-    requires entry { IsEntryListable child.now.entry.now }
-    ensures { IfOk result (λ line. line ≡ line_of (lent child.now)) }
+// The name of a child, which is a text.
+fn name_of<'a>(child: &Listed<'a, Body>) -> &'a str
+    requires { IsComponent child.now.name.now }
+    ensures { result.now ≡ child.now.name.now }
 {
-    let row = Row {
-        path: path_of(alloc, child.name)?,
-        entry: plain_entry(alloc, child.entry)?,
-    };
-    page_text(alloc, &[row])
-}
-
-// A path that ends in this name: a line tells no more of it.
-fn path_of(alloc: Global, name: &[u8]) -> Result<Path, AllocError>
-    requires { IsComponent name.now }
-    ensures { IfOk result (λ p. p ≡ record { area = Stor; parts = name.now ∷ [] }) }
-{
-    let mut parts = Vec::new(alloc);
-    parts.push(Bytes::from_slice(alloc, name)?)?;
-    Ok(Path::from_parts(Area::Stor, parts))
-}
-
-// What a line tells of an entry, without the type and the metadata of an object.
-fn plain_entry(alloc: Global, entry: &Entry<Body>) -> Result<Entry<Body>, AllocError>
-    ensures { IfOk result (λ e. e ≡ plain_entry entry.now) }
-{
-    match entry {
-        Entry::Directory { mtime } => Ok(Entry::Directory { mtime: *mtime }),
-        Entry::Object(object) => Ok(Entry::Object(Object {
-            number: object.number,
-            body: object.body.copy(alloc)?,
-            content_type: Text::from_str(alloc, "")?,
-            durability: None,
-            metadata: Sequence::from_vec(Vec::new(alloc)),
-            mtime: object.mtime,
-        })),
+    match str::from_utf8(child.name) {
+        Ok(name) => name,
+        Err(_) => unreachable!(),
     }
 }

@@ -7,7 +7,6 @@ use Rattle.mt_ident.specs.Dates.{iso_time_text}
 use Rattle.mt_ident.specs.Identifiers.{identifier_text}
 use Rattle.mt_base.specs.declared.limits.TheConstants.{LAST_MOMENT}
 use Rattle.mt_model.specs.Listing.{name_of}
-use Rattle.mt_path.specs.AccountPath.{AccountPath}
 use Rattle.mt_types.specs.declared.object.Entry.{Entry}
 use Rattle.mt_types.specs.declared.object.Entry.TheVariants as entry
 use Rattle.mt_types.specs.declared.object.Row.{Row}
@@ -29,17 +28,18 @@ module _ {B : Type 0} where
   IsEntryListable (entry.Directory mtime) = mtime ≤ LAST_MOMENT
   IsEntryListable (entry.Object o) = (o.mtime ≤ LAST_MOMENT) × (o.number < 2 ^ 62)
 
-  -- a row that a line can show
-  abbrev pub IsListable : Row B → Type 0
-  IsListable r = IsEntryListable r.entry
+  -- what stands at this name in a directory
+  abbrev pub line_data : (B → ℕ) → List ℕ → Entry B → Data
+  line_data size name (entry.Directory mtime) = directory_data name mtime
+  line_data size name (entry.Object o) = object_data name o.number o.mtime (size o.body)
 
-  abbrev pub entry_data : (B → ℕ) → AccountPath → Entry B → Data
-  entry_data size p (entry.Directory mtime) = directory_data (name_of p) mtime
-  entry_data size p (entry.Object o) = object_data (name_of p) o.number o.mtime (size o.body)
+  -- its line
+  abbrev pub page_line : (B → ℕ) → List ℕ → Entry B → List ℕ
+  page_line size name e = compact_text (line_data size name e) ++ 10 ∷ []
 
   -- the line of a row
   abbrev pub row_line : (B → ℕ) → Row B → List ℕ
-  row_line size r = compact_text (entry_data size r.path r.entry) ++ 10 ∷ []
+  row_line size r = page_line size (name_of r.path) r.entry
 
   -- the lines of rows, whose bodies have so many bytes each
   abbrev pub page_text : (B → ℕ) → List (Row B) → List ℕ

@@ -1,8 +1,8 @@
 //! Texts that are made of an account's state when they are asked for.
 //!
-//! - `listing`: a page of a directory, a line of JSON (RFC 8259) a row.
+//! - `listing`: a line of a page of a directory, JSON (RFC 8259).
 #![tactic(auto)]
 
 mod listing;
 
-pub use listing::page_text;
+pub use listing::page_line;

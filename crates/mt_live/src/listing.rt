@@ -1,58 +1,35 @@
-//! A page of a directory.
-ghost use Rattle.std.specs.Prelude.{◌≡◌, ◌<◌, ◌≤◌, ◌^◌, ◌++◌, All, IfOk, IsAscii, IsUtf8, OnOk, string_bytes};
+//! A line of a page of a directory.
+ghost use Rattle.std.specs.Prelude.{◌≡◌, ◌<◌, ◌≤◌, ◌^◌, ◌++◌, IfOk, IsAscii};
 ghost use Rattle.serde_json.specs.View.{view};
 ghost use Rattle.serde_json.specs.Written.{compact_text};
-ghost use Rattle.mt_model.specs.Listing.{name_of};
-ghost use Rattle.mt_live.specs.LiveTexts.{IsListable, directory_data, entry_data, object_data, page_text, row_line};
+ghost use Rattle.mt_live.specs.LiveTexts.{IsEntryListable, directory_data, line_data, object_data, page_line};
 
-use mt_base::{Bytes, LAST_MOMENT, Text};
+use mt_base::{LAST_MOMENT, Text};
 use mt_ident::{iso_time, uuid_text};
-use mt_path::Path;
-use mt_types::{Body, Entry, Row};
+use mt_types::{Body, Entry};
 use serde_json::{Value, json};
 use std::alloc::{AllocError, Global};
 use std::str;
 
-/// The text of a page of a directory: a line of JSON (RFC 8259) a row, ended by a line feed. An object is
-/// `{"etag":..,"mtime":..,"name":..,"size":..,"type":"object"}`, a directory has no `etag` and no `size`.
-pub fn page_text(alloc: Global, rows: &[Row<Body>]) -> Result<Bytes, AllocError>
-    requires { All IsListable rows.now }
-    ensures { IfOk result (λ text. text ≡ page_text (λ b. b.len) rows.now) }
+/// The line of a child of a directory, by its name and what stands there: JSON (RFC 8259), ended by a line feed. An
+/// object is `{"etag":..,"mtime":..,"name":..,"size":..,"type":"object"}`, a directory has no `etag` and no `size`.
+/// Of an object it takes the number, the size and the moment, so that neither its type nor its metadata is copied.
+pub fn page_line(alloc: Global, name: &str, entry: &Entry<Body>) -> Result<Text, AllocError>
+    requires { IsEntryListable entry.now }
+    ensures { IfOk result (λ line. line ≡ page_line (λ b. b.len) name.now entry.now) }
 {
-    let mut out = Vec::new(alloc);
-    for row in rows {
-        put_line(&mut out, alloc, row)?;
-    }
-    Ok(Bytes::from_vec(out))
+    let value = line_value(alloc, name, entry)?;
+    let mut line = value.to_string(alloc)?;
+    line.push_str("\n")?;
+    Ok(Text::from_string(line))
 }
 
-// Adds the line of a row.
-fn put_line(out: &mut Vec<u8>, alloc: Global, row: &Row<Body>) -> Result<(), AllocError>
-    requires { IsListable row.now }
-    ensures { OnOk result (out.new.items ≡ out.old.items ++ row_line (λ b. b.len) row.now) }
+// A child of a directory as a value.
+fn line_value(alloc: Global, name: &str, entry: &Entry<Body>) -> Result<Value, AllocError>
+    requires { IsEntryListable entry.now }
+    ensures { IfOk result (λ v. view v ≡ line_data (λ b. b.len) name.now entry.now) }
 {
-    let text = row_text(alloc, row)?;
-    out.extend_from_slice(text.as_bytes())?;
-    out.extend_from_slice(b"\n")?;
-    Ok(())
-}
-
-// The text of a row.
-fn row_text(alloc: Global, row: &Row<Body>) -> Result<Text, AllocError>
-    requires { IsListable row.now }
-    ensures { IfOk result (λ text. text ≡ compact_text (entry_data (λ b. b.len) row.now.path row.now.entry)) }
-{
-    let value = row_value(alloc, row)?;
-    Ok(Text::from_string(value.to_string(alloc)?))
-}
-
-// A row as a value.
-fn row_value(alloc: Global, row: &Row<Body>) -> Result<Value, AllocError>
-    requires { IsListable row.now }
-    ensures { IfOk result (λ v. view v ≡ entry_data (λ b. b.len) row.now.path row.now.entry) }
-{
-    let name = name_of(&row.path);
-    match &row.entry {
+    match entry {
         Entry::Directory { mtime } => directory_value(alloc, name, *mtime),
         Entry::Object(object) => {
             object_value(alloc, name, object.number, object.mtime, object.body.len)
@@ -97,19 +74,6 @@ fn ascii(bytes: &[u8]) -> &str
     ensures { result.now ≡ bytes.now }
 {
     match str::from_utf8(bytes) {
-        Ok(text) => text,
-        Err(_) => unreachable!(),
-    }
-}
-
-// The last component of a path; of a root, no bytes.
-fn name_of(path: &Path) -> &str
-    ensures { result.now ≡ name_of path.now }
-{
-    if path.len() == 0 {
-        return "";
-    }
-    match str::from_utf8(path.part(path.len() - 1)) {
         Ok(text) => text,
         Err(_) => unreachable!(),
     }

@@ -1,13 +1,10 @@
 //! The lines of pages.
 ghost use Rattle.std.specs.Prelude.{◌≤◌, IfOk};
 
-use mt_live::page_text;
+use mt_live::page_line;
 use mt_rows::{Row, Stop, put_lines};
-use mt_types::{Area, Body, Entry, LAST_MOMENT, Object, Path, Sequence, Text};
+use mt_types::{Body, Entry, LAST_MOMENT, NUMBERS_END, Object, Sequence, Text};
 use std::alloc::Global;
-
-/// The first number that no object has.
-const NUMBERS_END: u64 = 1 << 62;
 
 /// Answers a row of this module.
 pub fn answer(alloc: Global, row: &Row, out: &mut String) -> Result<(), Stop> {
@@ -15,18 +12,6 @@ pub fn answer(alloc: Global, row: &Row, out: &mut String) -> Result<(), Stop> {
         "directory" => put_directory(alloc, row, out),
         "file" => put_object(alloc, row, out),
         _ => Err(Stop::NoSuchRow),
-    }
-}
-
-// The path of this name below a root, or the root.
-fn path_of(alloc: Global, name: &[u8]) -> Result<Path, Stop> {
-    let root = Path::root(alloc, Area::Stor);
-    if name.is_empty() {
-        return Ok(root);
-    }
-    match root.child(alloc, name) {
-        Ok(path) => Ok(path),
-        Err(_) => Err(Stop::NoSuchRow),
     }
 }
 
@@ -42,10 +27,9 @@ fn mtime_at(row: &Row, place: usize) -> Result<u64, Stop>
 // `directory NAME MTIME`: its line.
 fn put_directory(alloc: Global, row: &Row, out: &mut String) -> Result<(), Stop> {
     let mtime = mtime_at(row, 2)?;
-    let path = path_of(alloc, row.bytes(1)?)?;
     let entry = Entry::Directory { mtime };
-    let text = page_text(alloc, &[mt_types::Row { path, entry }])?;
-    put_page(text.as_slice(), out)
+    let line = page_line(alloc, row.text(1)?, &entry)?;
+    put_page(line.as_bytes(), out)
 }
 
 // `file NAME NUMBER MTIME SIZE`: the line of an object.
@@ -61,7 +45,6 @@ fn put_object(alloc: Global, row: &Row, out: &mut String) -> Result<(), Stop> {
         md5: [0; 16],
     };
     let content_type = Text::from_str(alloc, "text/plain")?;
-    let path = path_of(alloc, row.bytes(1)?)?;
     let entry = Entry::Object(Object {
         number,
         body,
@@ -70,8 +53,8 @@ fn put_object(alloc: Global, row: &Row, out: &mut String) -> Result<(), Stop> {
         metadata: Sequence::new(alloc),
         mtime,
     });
-    let text = page_text(alloc, &[mt_types::Row { path, entry }])?;
-    put_page(text.as_slice(), out)
+    let line = page_line(alloc, row.text(1)?, &entry)?;
+    put_page(line.as_bytes(), out)
 }
 
 fn put_page(text: &[u8], out: &mut String) -> Result<(), Stop> {

@@ -12,14 +12,11 @@ use mt_reply::{
     unchanged_reply,
 };
 use mt_rows::{Row, Stop, put_lines};
-use mt_types::{Bytes, Field, Object, Reply, ReplyBody, Sequence, Text};
+use mt_types::{Bytes, Field, NUMBERS_END, Object, Reply, ReplyBody, Sequence, Text};
 use std::alloc::{AllocError, Global};
 
 /// The room of a sink, in bytes.
 const ROOM: usize = 10_000;
-
-/// The first number that no object has.
-const NUMBERS_END: u64 = 1 << 62;
 
 /// Answers a row of this module, or else of the next.
 pub fn answer(alloc: Global, row: &Row, out: &mut String) -> Result<(), Stop> {
