@@ -1,7 +1,8 @@
-// The rows of tree_bench in a std::map, its key the names of a path each behind a slash. Words and output are the same.
+// The rows of tree_bench in a std::map, its key the names of a path each behind a slash. Words, lines and output are the same.
 #include <cstdint>
 #include <cstdio>
 #include <cstdlib>
+#include <cstring>
 #include <map>
 #include <optional>
 #include <string>
@@ -65,55 +66,84 @@ static void put(Rows &rows, uint64_t place) {
     rows.insert_or_assign(std::move(path), std::move(row));
 }
 
+static std::vector<std::string> directories(uint64_t n) {
+    std::vector<std::string> dirs;
+    for (uint64_t k = 0; k < n / 1000; k++) dirs.push_back(directory_at(k * 1000));
+    return dirs;
+}
+
+static void put_all(Rows &rows, uint64_t n, bool mixed) {
+    uint64_t place = 0, numbers = mixed && n < (1 << 20) ? 1 << 20 : n;
+    for (uint64_t k = 0; k < numbers; k++) {
+        place = mixed ? next_mixed(place) : k;
+        if (place < n) put(rows, place);
+    }
+}
+
+// Names and rows are lent, as the tree's are.
+static uint64_t page(const Rows &rows, const std::string &dir) {
+    uint64_t sum = 0;
+    std::string front = dir + "/";
+    std::vector<std::pair<const char *, const Row *>> page;
+    for (auto at = rows.lower_bound(front); at != rows.end() && page.size() < 1000; ++at) {
+        if (at->first.compare(0, front.size(), front) != 0) break;
+        if (at->first.find('/', front.size()) != std::string::npos) continue;
+        page.emplace_back(at->first.data() + front.size(), &at->second);
+    }
+    for (auto &listed : page) sum += std::char_traits<char>::length(listed.first);
+    return sum;
+}
+
 int main(int count, char **words) {
-    if (count != 5) return 1;
-    std::string work = words[1], order = words[4];
-    uint64_t n = strtoull(words[2], nullptr, 10), rounds = strtoull(words[3], nullptr, 10), sum = 0, place = 0;
+    if (count != 3) return 1;
+    uint64_t n = strtoull(words[1], nullptr, 10);
+    bool mixed = std::string(words[2]) == "mixed";
     Rows rows;
     rows.emplace("", Row());
     for (uint64_t k = 0; k < n / 1000; k++) {
         const uint64_t names[] = {k / 100, k / 10 % 10, k % 10};
         for (int depth = 1; depth <= 3; depth++) make(rows, path_of(names, depth));
     }
-    if (work != "nothing") {
-        uint64_t most = order == "mixed" && n < (1 << 20) ? 1 << 20 : n;
-        for (uint64_t k = 0; k < most; k++) {
-            place = order == "mixed" ? next_mixed(place) : k;
-            if (place < n) put(rows, place);
-        }
-    }
-    place = 0;
-    for (uint64_t round = 0; round < rounds; round++) {
-        if (work == "paths" || work == "gets") {
-            for (uint64_t k = 0; k < n; k++) {
+    std::vector<std::string> paths;
+    char line[64];
+    while (fgets(line, sizeof line, stdin)) {
+        line[strcspn(line, "\n")] = 0;
+        char *number = strchr(line, ' ');
+        std::string work(line, number ? number - line : strlen(line));
+        uint64_t times = number ? strtoull(number, nullptr, 10) : 0, sum = 0;
+        if (work == "puts") {
+            put_all(rows, n, mixed);
+            sum = n;
+        } else if (work == "paths") {
+            paths.clear();
+            uint64_t place = 0;
+            for (uint64_t k = 0; k < times; k++) {
                 place = next_mixed(place);
-                std::string path = path_at(place % n);
-                if (work == "paths") {
-                    sum += path.size() / 11;
-                } else {
+                paths.push_back(path_at(n ? place % n : 0));
+                sum += 4;
+            }
+        } else if (work == "gets") {
+            for (uint64_t k = 0; k < times; k++)
+                for (const std::string &path : paths) {
                     auto found = rows.find(path);
                     if (found != rows.end() && !found->second.is_directory) sum += found->second.number;
                 }
-            }
         } else if (work == "counts") {
-            for (uint64_t k = 0; k < n / 1000; k++) {
-                auto found = rows.find(directory_at(k * 1000));
-                if (found != rows.end()) sum += found->second.children;
-            }
-        } else if (work == "pages") {
-            // Names and rows are lent, as the tree's are.
-            for (uint64_t k = 0; k < n / 1000; k++) {
-                std::string front = directory_at(k * 1000) + "/";
-                std::vector<std::pair<const char *, const Row *>> page;
-                for (auto at = rows.lower_bound(front); at != rows.end() && page.size() < 1000; ++at) {
-                    if (at->first.compare(0, front.size(), front) != 0) break;
-                    if (at->first.find('/', front.size()) != std::string::npos) continue;
-                    page.emplace_back(at->first.data() + front.size(), &at->second);
+            auto dirs = directories(n);
+            for (uint64_t k = 0; k < times; k++)
+                for (const std::string &dir : dirs) {
+                    auto found = rows.find(dir);
+                    if (found != rows.end()) sum += found->second.children;
                 }
-                for (auto &listed : page) sum += std::char_traits<char>::length(listed.first);
-            }
+        } else if (work == "pages") {
+            auto dirs = directories(n);
+            for (uint64_t k = 0; k < times; k++)
+                for (const std::string &dir : dirs) sum += page(rows, dir);
+        } else {
+            return 1;
         }
+        printf("%s: %llu\n", line, (unsigned long long)sum);
+        fflush(stdout);
     }
-    printf("%llu rows, %llu\n", (unsigned long long)n, (unsigned long long)sum);
     return 0;
 }

@@ -1,6 +1,7 @@
-//! `tree_bench WORK ROWS ROUNDS rising|mixed`: the work that the measurement of the tree takes the time and the memory of.
+//! `tree_bench ROWS rising|mixed`: does what each line of its input asks for, so that a script takes the time and the memory of
+//! each.
 //!
-//! - `words`: what is to be done; `outcome`: what was done, or why not, as a line and a status.
+//! - `words`: what is to be done; `outcome`: why it was not done, as a line and a status.
 //! - `rows`: the rows of the measurement; `work`: what is done with them.
 #![tactic(auto)]
 
@@ -9,11 +10,12 @@ mod rows;
 mod words;
 mod work;
 
-use outcome::{Done, Fault};
+use outcome::Fault;
 use std::env;
 use std::io::ErrorKind;
 use std::process::ExitCode;
-use words::{Load, Work};
+use words::{Load, work_of};
+use work::Bench;
 
 // The words behind the program's own name.
 fn words_of(rt: &HostRuntime) -> Result<Vec<String>, Fault> {
@@ -30,36 +32,25 @@ fn words_of(rt: &HostRuntime) -> Result<Vec<String>, Fault> {
     }
 }
 
-// Does what the words ask for.
-fn run(rt: &HostRuntime) -> Result<Done, Fault> {
+// Does what each line of standard input asks for, and prints what it found, so that a script sees where each work ends.
+fn run(rt: &HostRuntime) -> Result<(), Fault> {
     let alloc = rt.alloc();
-    let words = words_of(rt)?;
-    let load = Load::read(&words)?;
-    if load.work == Work::Text || load.work == Work::Blank {
-        return work::text(alloc, load.rows, load.work == Work::Text);
+    let mut bench = Bench::new(alloc, Load::read(&words_of(rt)?)?)?;
+    for line in rt.lines(alloc) {
+        let Ok(line) = line else {
+            return Err(Fault::Input);
+        };
+        let found = bench.do_work(alloc, work_of(line.as_str())?)?;
+        if println!(rt; "{line}: {found}").is_err() {
+            return Err(Fault::Output);
+        }
     }
-    let mut tree = rows::directories(alloc, load.rows)?;
-    if load.work != Work::Nothing {
-        rows::put_all(alloc, &mut tree, load.rows, load.order)?;
-    }
-    match load.work {
-        Work::Paths => work::paths(alloc, load),
-        Work::Gets => work::gets(alloc, &tree, load),
-        Work::Counts => work::counts(alloc, &tree, load),
-        Work::Pages => work::pages(alloc, &tree, load),
-        _ => Ok(Done {
-            rows: load.rows,
-            sum: 0,
-        }),
-    }
+    Ok(())
 }
 
 fn main(rt: HostRuntime) -> ExitCode {
     let status = match run(&rt) {
-        Ok(done) => match println!(rt; "{done}") {
-            Ok(()) => 0,
-            Err(_) => Fault::Output.status(),
-        },
+        Ok(()) => 0,
         Err(fault) => {
             let _ = eprintln!(rt; "tree_bench: {fault}");
             fault.status()

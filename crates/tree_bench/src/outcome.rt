@@ -1,23 +1,8 @@
-//! What was done, or why not, as a line and a status.
+//! Why the work was not done, as a line and a status.
 use mt_path::PathError;
 use mt_tree::Refusal;
 use std::alloc::{AllocError, AllocFailed};
 use std::fmt;
-
-/// What was done.
-#[derive(Clone, Copy)]
-pub(crate) struct Done {
-    /// Rows, or bytes of a text.
-    pub rows: u64,
-    /// What the work found, added up.
-    pub sum: u64,
-}
-
-impl fmt::Display for Done {
-    fn fmt<W: fmt::Write>(&self, f: &mut fmt::Formatter<W>) -> fmt::Result {
-        write!(f, "{} rows, {}", self.rows, self.sum)
-    }
-}
 
 /// Why the work was not done.
 #[derive(Clone, Copy)]
@@ -28,6 +13,8 @@ pub(crate) enum Fault {
     Refused(Refusal),
     /// A name is no path.
     Path(PathError),
+    /// Standard input has failed.
+    Input,
     /// Standard output has failed.
     Output,
     /// Out of memory.
@@ -40,6 +27,7 @@ impl Fault {
         match self {
             Fault::Usage => 1,
             Fault::Refused(_) | Fault::Path(_) => 2,
+            Fault::Input => 3,
             Fault::Output => 4,
             Fault::Memory => 8,
         }
@@ -51,10 +39,11 @@ impl fmt::Display for Fault {
         match self {
             Fault::Usage => write!(
                 f,
-                "usage: tree_bench WORK ROWS ROUNDS rising|mixed; WORK is nothing, puts, paths, gets, counts, pages, text or blank"
+                "usage: tree_bench ROWS rising|mixed; lines are puts, paths N, gets N, counts N, pages N, blank N, text"
             ),
             Fault::Refused(refusal) => write!(f, "the tree refused a row: {refusal:?}"),
             Fault::Path(e) => write!(f, "a name is no path: {e:?}"),
+            Fault::Input => write!(f, "standard input has failed"),
             Fault::Output => write!(f, "standard output has failed"),
             Fault::Memory => write!(f, "want of memory"),
         }

@@ -1,7 +1,7 @@
 //! The rows of the measurement: objects of four names of ten digits, ten directories in each but the last, and 1,000
 //! objects in each of these.
 use crate::outcome::Fault;
-use crate::words::Order;
+use crate::words::{Load, Order};
 use mt_path::{Area, Bytes, Path};
 use mt_tree::{Object, Sequence, Text, Tree};
 use mt_types::Body;
@@ -95,21 +95,24 @@ fn put(alloc: Global, tree: &mut Tree<Body>, place: u64) -> Result<(), Fault> {
 }
 
 /// Puts the objects.
-pub(crate) fn put_all(
-    alloc: Global,
-    tree: &mut Tree<Body>,
-    rows: u64,
-    order: Order,
-) -> Result<(), Fault> {
+pub(crate) fn put_all(alloc: Global, tree: &mut Tree<Body>, load: Load) -> Result<(), Fault> {
     let mut place = 0;
-    for n in 0..rows.max(if order == Order::Mixed { NUMBERS } else { 0 }) {
-        match order {
+    for n in 0..numbers_of(load) {
+        match load.order {
             Order::Rising => place = n,
             Order::Mixed => place = next_mixed(place),
         }
-        if place < rows {
+        if place < load.rows {
             put(alloc, tree, place)?;
         }
     }
     Ok(())
+}
+
+// How many numbers the order goes through.
+fn numbers_of(load: Load) -> u64 {
+    match load.order {
+        Order::Rising => load.rows,
+        Order::Mixed => load.rows.max(NUMBERS),
+    }
 }

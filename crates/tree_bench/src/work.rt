@@ -1,7 +1,7 @@
 //! What is done with the rows.
-use crate::outcome::{Done, Fault};
-use crate::rows::{directory_at, next_mixed, path_at};
-use crate::words::Load;
+use crate::outcome::Fault;
+use crate::rows::{directories, directory_at, next_mixed, path_at, put_all};
+use crate::words::{Load, Work};
 use mt_path::Path;
 use mt_tree::{Entry, Tree};
 use mt_types::Body;
@@ -10,95 +10,147 @@ use std::alloc::Global;
 /// The rows of a page.
 const PAGE: usize = 1_000;
 
-// The path of the next row that is got.
-fn next_path(alloc: Global, place: &mut u64, rows: u64) -> Result<Path, Fault> {
-    *place = next_mixed(*place);
-    let at = if rows == 0 { 0 } else { *place % rows };
-    path_at(alloc, at)
+/// A text that is read as a path begins so.
+const ROOT: &[u8] = b"/l/stor";
+
+/// What is measured.
+#[derive(Drop)]
+pub(crate) struct Bench {
+    load: Load,
+    tree: Tree<Body>,
+    /// The paths that are got.
+    paths: Vec<Path>,
+    /// The text that is read as a path.
+    text: Vec<u8>,
 }
 
-/// Makes the paths of the gets.
-pub(crate) fn paths(alloc: Global, load: Load) -> Result<Done, Fault> {
-    let mut sum: u64 = 0;
-    let mut place = 0;
-    for _ in 0..load.rounds {
-        for _ in 0..load.rows {
-            let path = next_path(alloc, &mut place, load.rows)?;
-            sum = sum.wrapping_add(path.len() as u64);
+impl Bench {
+    /// The directories of the objects, and none of these.
+    pub(crate) fn new(alloc: Global, load: Load) -> Result<Bench, Fault> {
+        Ok(Bench {
+            load,
+            tree: directories(alloc, load.rows)?,
+            paths: Vec::new(alloc),
+            text: Vec::new(alloc),
+        })
+    }
+
+    /// Does what a line asks for. What it found, added up.
+    pub(crate) fn do_work(&mut self, alloc: Global, work: Work) -> Result<u64, Fault> {
+        match work {
+            Work::Puts => {
+                put_all(alloc, &mut self.tree, self.load)?;
+                Ok(self.load.rows)
+            }
+            Work::Paths(count) => self.make_paths(alloc, count),
+            Work::Gets(times) => Ok(self.gets(times)),
+            Work::Counts(times) => self.counts(alloc, times),
+            Work::Pages(times) => self.pages(alloc, times),
+            Work::Blank(bytes) => self.make_text(alloc, bytes),
+            Work::Text => self.read_text(alloc),
         }
     }
-    Ok(Done {
-        rows: load.rows,
-        sum,
-    })
-}
 
-/// Gets each object.
-pub(crate) fn gets(alloc: Global, tree: &Tree<Body>, load: Load) -> Result<Done, Fault> {
-    let mut sum: u64 = 0;
-    let mut place = 0;
-    for _ in 0..load.rounds {
-        for _ in 0..load.rows {
-            let path = next_path(alloc, &mut place, load.rows)?;
-            if let Some(Entry::Object(object)) = tree.get(&path) {
+    // Makes paths of objects in a mixed order. Their names, counted.
+    fn make_paths(&mut self, alloc: Global, count: u64) -> Result<u64, Fault> {
+        let mut paths = Vec::new(alloc);
+        let mut names: u64 = 0;
+        let mut place = 0;
+        for _ in 0..count {
+            place = next_mixed(place);
+            let at = if self.load.rows == 0 {
+                0
+            } else {
+                place % self.load.rows
+            };
+            let path = path_at(alloc, at)?;
+            names = names.wrapping_add(path.len() as u64);
+            paths.push(path)?;
+        }
+        self.paths = paths;
+        Ok(names)
+    }
+
+    // Gets the object of each path. Their numbers, added up.
+    fn gets(&self, times: u64) -> u64 {
+        let mut sum: u64 = 0;
+        for _ in 0..times {
+            sum = sum.wrapping_add(self.numbers());
+        }
+        sum
+    }
+
+    fn numbers(&self) -> u64 {
+        let mut sum: u64 = 0;
+        for path in &self.paths {
+            if let Some(Entry::Object(object)) = self.tree.get(path) {
                 sum = sum.wrapping_add(object.number);
             }
         }
+        sum
     }
-    Ok(Done {
-        rows: load.rows,
-        sum,
-    })
-}
 
-/// Counts the children of each directory.
-pub(crate) fn counts(alloc: Global, tree: &Tree<Body>, load: Load) -> Result<Done, Fault> {
-    let mut sum: u64 = 0;
-    for _ in 0..load.rounds {
-        for n in 0..load.rows / 1_000 {
-            let dir = directory_at(alloc, n.wrapping_mul(1_000))?;
-            sum = sum.wrapping_add(tree.count(&dir));
-        }
-    }
-    Ok(Done {
-        rows: load.rows,
-        sum,
-    })
-}
-
-/// Takes a page of each directory.
-pub(crate) fn pages(alloc: Global, tree: &Tree<Body>, load: Load) -> Result<Done, Fault> {
-    let mut sum: u64 = 0;
-    for _ in 0..load.rounds {
-        for n in 0..load.rows / 1_000 {
-            let dir = directory_at(alloc, n.wrapping_mul(1_000))?;
-            let page = tree.page(alloc, &dir, b"", PAGE)?;
-            for listed in &page {
-                sum = sum.wrapping_add(listed.name.len() as u64);
+    // Counts the children of each directory.
+    fn counts(&self, alloc: Global, times: u64) -> Result<u64, Fault> {
+        let dirs = self.directories(alloc)?;
+        let mut sum: u64 = 0;
+        for _ in 0..times {
+            for dir in &dirs {
+                sum = sum.wrapping_add(self.tree.count(dir));
             }
         }
+        Ok(sum)
     }
-    Ok(Done {
-        rows: load.rows,
-        sum,
-    })
-}
 
-/// Makes a text of short names, and reads it as a path, which is too long.
-pub(crate) fn text(alloc: Global, bytes: u64, reads: bool) -> Result<Done, Fault> {
-    let mut text = Vec::with_capacity(alloc, bytes as usize)?;
-    text.extend_from_slice(b"/l/stor")?;
-    for _ in 0..bytes / 2 {
-        text.extend_from_slice(b"/a")?;
-    }
-    let mut sum: u64 = 0;
-    if reads {
-        if let Err(e) = Path::parse(alloc, "l", &text) {
-            sum = sum.wrapping_add(e as u64);
+    // Takes a page of each directory. The bytes of its names, added up.
+    fn pages(&self, alloc: Global, times: u64) -> Result<u64, Fault> {
+        let dirs = self.directories(alloc)?;
+        let mut sum: u64 = 0;
+        for _ in 0..times {
+            for dir in &dirs {
+                sum = sum.wrapping_add(self.page(alloc, dir)?);
+            }
         }
-        if let Err(e) = Path::plain(alloc, "l", &text) {
-            sum = sum.wrapping_add(e as u64);
-        }
+        Ok(sum)
     }
-    Ok(Done { rows: bytes, sum })
+
+    fn page(&self, alloc: Global, dir: &Path) -> Result<u64, Fault> {
+        let mut sum: u64 = 0;
+        for listed in &self.tree.page(alloc, dir, b"", PAGE)? {
+            sum = sum.wrapping_add(listed.name.len() as u64);
+        }
+        Ok(sum)
+    }
+
+    // The paths of the directories of objects.
+    fn directories(&self, alloc: Global) -> Result<Vec<Path>, Fault> {
+        let mut dirs = Vec::new(alloc);
+        for n in 0..self.load.rows / 1_000 {
+            dirs.push(directory_at(alloc, n.wrapping_mul(1_000))?)?;
+        }
+        Ok(dirs)
+    }
+
+    // Makes a text of short names. Its bytes, counted.
+    fn make_text(&mut self, alloc: Global, bytes: u64) -> Result<u64, Fault> {
+        let mut text = Vec::with_capacity(alloc, bytes as usize)?;
+        text.extend_from_slice(ROOT)?;
+        for _ in 0..bytes.saturating_sub(ROOT.len() as u64) / 2 {
+            text.extend_from_slice(b"/a")?;
+        }
+        self.text = text;
+        Ok(self.text.len() as u64)
+    }
+
+    // Reads the text as a path, by both readers. How many refuse it, as too long.
+    fn read_text(&self, alloc: Global) -> Result<u64, Fault> {
+        let mut refused = 0;
+        if Path::parse(alloc, "l", &self.text).is_err() {
+            refused += 1;
+        }
+        if Path::plain(alloc, "l", &self.text).is_err() {
+            refused += 1;
+        }
+        Ok(refused)
+    }
 }
