@@ -34,6 +34,12 @@ abbrev pub CanBeRead : Option Files → ReplyBody Body → Type 0
 CanBeRead seen (Held held) = Unit {0}
 CanBeRead seen (Part body from to) = (from ≤ to) × (to ≤ body.len) × ForSome (told seen) (λ ps. is_stored ps body ≡ true)
 
+-- the same reply, which holds the bytes of its body
+pub record Loads (seen : Option Files) (reply held : Reply Body) : Type 0 where
+  pub bytes : Bytes
+  pub body : IsBodyOf seen reply.body bytes
+  pub held_is : held ≡ record reply { body = Held bytes }
+
 -- the bytes of a reply to this head whose body has these bytes
 abbrev pub text_to : Reply Body → Bytes → Head → Bytes
 text_to reply body head = text_with reply.status reply.fields reply.closes body (is_head head)

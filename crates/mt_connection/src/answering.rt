@@ -59,7 +59,7 @@ fn converse<D: Disk, C: Clock, L: Both>(
     let moment = clock.now();
     let mut body = BodyStream::new(link, &head, limit_of(&head));
     match answer(alloc, login, engine, disk, &head, &mut body, moment) {
-        Answered::Replied(reply) => respond(alloc, engine, disk, link, &reply, &head),
+        Answered::Replied(reply) => respond(alloc, engine, disk, link, reply, &head),
         Answered::Unfinished(Ending::Truncated) => Step::Over(ConnectionEnd::Truncated),
         Answered::Unfinished(Ending::Bad) => refuse(
             alloc,

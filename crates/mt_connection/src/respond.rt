@@ -1,5 +1,5 @@
 //! The reply to a message.
-ghost use Rattle.std.specs.Prelude.{◌≡◌, ◌≤◌, ◌<◌, ◌-◌, ◌++◌, ℕ, List, Option, true, false, length, IfOk};
+ghost use Rattle.std.specs.Prelude.{◌≡◌, ◌≤◌, ◌<◌, ◌-◌, ◌++◌, ◌⊎◌, ℕ, List, Option, true, false, length, IfOk, IfErr};
 ghost use Rattle.std.specs.Option.{ForSome};
 ghost use Rattle.mt_base.specs.Counts.{NeverFell, Rose};
 ghost use Rattle.mt_body.specs.Sending as part;
@@ -12,10 +12,11 @@ ghost use Rattle.mt_http.specs.ReplyText.{head_text};
 ghost use Rattle.mt_http.specs.ReplyWriting.{WritesText};
 ghost use Rattle.mt_log.specs.LogState.{IsThere, Stands, told};
 ghost use Rattle.mt_types.specs.declared.reply.ReplyBody.TheVariants.{Part};
-ghost use Rattle.mt_connection.specs.Steps.{CanBeRead, IsBodyOf, Sends, text_to};
+ghost use Rattle.mt_connection.specs.Steps.{CanBeRead, IsBodyOf, Loads, Sends, text_to};
 ghost use Rattle.mt_connection.specs.Transcript as words;
 
 use crate::end::{ConnectionEnd, Step};
+use mt_base::Bytes;
 use mt_body::Sent;
 use mt_disk::Disk;
 use mt_edge::Sink;
@@ -26,6 +27,9 @@ use std::alloc::{AllocError, Global};
 
 /// A part of a body is sent by pieces of at most so many bytes.
 const PIECE: u64 = 65_536;
+
+/// A part of at most so many bytes goes out in one write with the head.
+const SMALL: u64 = 8_192;
 
 fn is_head(head: &Head) -> bool
     ensures { result ≡ words.is_head head.now }
@@ -71,6 +75,35 @@ fn is_bare(status: u16, head: &Head) -> bool
     is_head(head) || status == 204 || status == 304
 }
 
+// The bytes of a part of a body.
+fn part_of<D: Disk>(
+    alloc: Global,
+    engine: &Engine,
+    disk: &mut D,
+    body: &Body,
+    from: u64,
+    to: u64,
+) -> Result<Bytes, ConnectionEnd>
+    requires there { IsThere D.seen disk.old engine.now.log }
+    requires is_open { engine.now.log.closed ≡ false }
+    requires part { (from ≤ to) × (to ≤ body.now.len) }
+    requires stored { ForSome (told (D.seen disk.old)) (λ ps. is_stored ps body.now ≡ true) }
+    ensures ok { IfOk result (λ bytes. IsBodyOf (D.seen disk.old) (Part body.now from to) bytes) }
+    ensures ends { IfErr result (λ end. (end ≡ ConnectionEnd.Memory) ⊎ ((end ≡ ConnectionEnd.Disk) × Rose (D.faults disk.old) (D.faults disk.new))) }
+    ensures read { OnlyRead D.seen D.may_leave D.moment D.left_since disk.old disk.new }
+    ensures stands { Stands D.seen D.may_leave disk.old engine.now.log → Stands D.seen D.may_leave disk.new engine.now.log }
+    ensures faults { NeverFell (D.faults disk.old) (D.faults disk.new) }
+{
+    let mut bytes = match zeros(alloc, (to - from) as usize) {
+        Ok(bytes) => bytes,
+        Err(AllocError) => return Err(ConnectionEnd::Memory),
+    };
+    match engine.read_body(disk, body, from, bytes.as_mut_slice()) {
+        Ok(()) => Ok(Bytes::from_vec(bytes)),
+        Err(_) => Err(ConnectionEnd::Disk),
+    }
+}
+
 // Sends a reply whose body is a part of one in the log. The buffer is taken before anything is written.
 fn send_part<D: Disk, K: Sink>(
     alloc: Global,
@@ -108,8 +141,8 @@ fn send_part<D: Disk, K: Sink>(
     }
 }
 
-/// Sends a reply: its head, and its body unless the request is a HEAD or the status has none.
-pub(crate) fn respond<D: Disk, K: Sink>(
+// Sends a reply: its head, and its body unless the request is a HEAD or the status has none.
+fn send<D: Disk, K: Sink>(
     alloc: Global,
     engine: &Engine,
     disk: &mut D,
@@ -136,5 +169,77 @@ pub(crate) fn respond<D: Disk, K: Sink>(
                 send_part(alloc, engine, disk, sink, reply, body, *from, *to, closing)
             }
         }
+    }
+}
+
+// Whether the body of a reply is a part that is sent, and small enough to go out in one write with the head.
+fn is_small(reply: &Reply<Body>, head: &Head) -> bool {
+    match &reply.body {
+        ReplyBody::Held(_) => false,
+        ReplyBody::Part { from, to, .. } => {
+            to.saturating_sub(*from) <= SMALL && !is_bare(reply.status, head)
+        }
+    }
+}
+
+// Reads the part of a body that a reply has, which it then holds.
+fn loaded<D: Disk>(
+    alloc: Global,
+    engine: &Engine,
+    disk: &mut D,
+    reply: Reply<Body>,
+) -> Result<Reply<Body>, ConnectionEnd>
+    requires there { IsThere D.seen disk.old engine.now.log }
+    requires is_open { engine.now.log.closed ≡ false }
+    requires shown { CanBeRead (D.seen disk.old) reply.body }
+    ensures ok { IfOk result (λ held. Loads (D.seen disk.old) reply held) }
+    ensures ends { IfErr result (λ end. (end ≡ ConnectionEnd.Memory) ⊎ ((end ≡ ConnectionEnd.Disk) × Rose (D.faults disk.old) (D.faults disk.new))) }
+    ensures read { OnlyRead D.seen D.may_leave D.moment D.left_since disk.old disk.new }
+    ensures stands { Stands D.seen D.may_leave disk.old engine.now.log → Stands D.seen D.may_leave disk.new engine.now.log }
+    ensures faults { NeverFell (D.faults disk.old) (D.faults disk.new) }
+{
+    let Reply {
+        status,
+        fields,
+        body,
+        closes,
+    } = reply;
+    let bytes = match body {
+        ReplyBody::Held(bytes) => bytes,
+        ReplyBody::Part { body, from, to } => part_of(alloc, engine, disk, &body, from, to)?,
+    };
+    Ok(Reply {
+        status,
+        fields,
+        body: ReplyBody::Held(bytes),
+        closes,
+    })
+}
+
+/// Sends a reply: its head, and its body unless the request is a HEAD or the status has none. A small part of a body in the log goes
+/// out in one write with the head.
+pub(crate) fn respond<D: Disk, K: Sink>(
+    alloc: Global,
+    engine: &Engine,
+    disk: &mut D,
+    sink: &mut K,
+    reply: Reply<Body>,
+    head: &Head,
+) -> Step
+    requires there { IsThere D.seen disk.old engine.now.log }
+    requires is_open { engine.now.log.closed ≡ false }
+    requires shown { CanBeRead (D.seen disk.old) reply.body }
+    ensures sends { (body : Bytes) × IsBodyOf (D.seen disk.old) reply.body body × Sends (options.closes head.now.minor head.now.fields) (text_to reply body head.now) result
+        (K.got sink.old) (K.got sink.new) (K.write_faults sink.old) (K.write_faults sink.new) (D.faults disk.old) (D.faults disk.new) }
+    ensures read { OnlyRead D.seen D.may_leave D.moment D.left_since disk.old disk.new }
+    ensures stands { Stands D.seen D.may_leave disk.old engine.now.log → Stands D.seen D.may_leave disk.new engine.now.log }
+    ensures stays { K.sink_stays sink.old sink.new }
+{
+    if !is_small(&reply, head) {
+        return send(alloc, engine, disk, sink, &reply, head);
+    }
+    match loaded(alloc, engine, disk, reply) {
+        Ok(held) => send(alloc, engine, disk, sink, &held, head),
+        Err(end) => Step::Over(end),
     }
 }
