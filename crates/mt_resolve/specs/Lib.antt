@@ -1,0 +1,4 @@
+pub mod Committing
+pub mod Undo
+pub mod Taking
+pub mod Laws
