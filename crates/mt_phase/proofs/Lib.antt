@@ -1,4 +1,3 @@
 pub mod Held
 pub mod Runs
-pub mod Tasks
 pub mod Texts

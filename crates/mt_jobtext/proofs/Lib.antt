@@ -1,0 +1,9 @@
+pub mod Windows
+pub mod Spelled
+pub mod Texts
+pub mod Lists
+pub mod Joined
+pub mod Bodies
+pub mod Numbered
+pub mod Outputs
+pub mod Chunks

@@ -1,0 +1,139 @@
+//! Numbers, and texts as JSON writes them (RFC 8259, section 7), in a window.
+ghost use Rattle.std.specs.Prelude.{◌≡◌, ◌<◌, decimal};
+ghost use Rattle.std.specs.Char.{digit_char};
+ghost use Rattle.std.specs.Str.Lossy.{utf8_lossy};
+ghost use Rattle.json.specs.Print.{escape, escape_byte, escape_letter, quoted};
+ghost use Rattle.serde_json.specs.Data.{boolean};
+ghost use Rattle.serde_json.specs.Written.{compact_text};
+ghost use Rattle.mt_jobtext.specs.Spelled.{shown_for, spelled};
+ghost use Rattle.mt_jobtext.specs.Windows.{Puts};
+
+use crate::window::Window;
+use itoa::Buffer;
+
+/// U+FFFD in UTF-8, which stands for what is no text.
+const REPLACEMENT: [u8; 3] = [0xEF, 0xBF, 0xBD];
+
+/// How a text is spelled.
+#[derive(Clone, Copy)]
+pub(crate) enum Spelling {
+    /// As it is.
+    Plain,
+    /// As it stands between quotes.
+    Escaped,
+}
+
+/// Adds a text in this spelling.
+pub(crate) fn put_spelled(window: &mut Window, spelling: Spelling, text: &[u8])
+    ensures { Puts (spelled spelling text.now) window.old window.new }
+{
+    match spelling {
+        Spelling::Plain => window.put(text),
+        Spelling::Escaped => put_escaped(window, text),
+    }
+}
+
+/// Adds a number in decimal.
+pub(crate) fn put_number(window: &mut Window, number: u64)
+    ensures { Puts (decimal number) window.old window.new }
+{
+    let mut buffer = Buffer::new();
+    window.put(buffer.format(number).as_bytes());
+}
+
+/// Adds a truth value.
+pub(crate) fn put_flag(window: &mut Window, flag: bool)
+    ensures { Puts (compact_text (boolean flag)) window.old window.new }
+{
+    if flag {
+        window.put(b"true");
+    } else {
+        window.put(b"false");
+    }
+}
+
+/// Adds a text in quotes.
+pub(crate) fn put_quoted(window: &mut Window, text: &[u8])
+    ensures { Puts (quoted text.now) window.old window.new }
+{
+    window.put(b"\"");
+    put_escaped(window, text);
+    window.put(b"\"");
+}
+
+/// Adds bytes in quotes as a text, with U+FFFD for each run of them that is none.
+pub(crate) fn put_lossy(window: &mut Window, bytes: &[u8])
+    ensures { Puts (quoted (utf8_lossy bytes.now)) window.old window.new }
+{
+    window.put(b"\"");
+    put_chunks(window, bytes);
+    window.put(b"\"");
+}
+
+// The same without the quotes.
+fn put_chunks(window: &mut Window, bytes: &[u8])
+    ensures { Puts (escape (utf8_lossy bytes.now)) window.old window.new }
+{
+    for chunk in bytes.utf8_chunks() {
+        put_escaped(window, chunk.valid().as_bytes());
+        put_escaped(window, shown_for(chunk.invalid()));
+    }
+}
+
+// What is shown for a run of bytes that are no text.
+fn shown_for(bytes: &[u8]) -> &'static [u8]
+    ensures { result.now ≡ shown_for bytes.now }
+{
+    if bytes.is_empty() { &[] } else { &REPLACEMENT }
+}
+
+// Adds a text as it stands between quotes.
+fn put_escaped(window: &mut Window, text: &[u8])
+    ensures { Puts (escape text.now) window.old window.new }
+{
+    for byte in text {
+        put_byte(window, *byte);
+    }
+}
+
+// Adds a byte of it.
+#[tactic(auto, unfolding(json::specs::Print::escape_byte))]
+fn put_byte(window: &mut Window, byte: u8)
+    ensures { Puts (escape_byte byte) window.old window.new }
+{
+    let letter = letter(byte);
+    if letter > 0 {
+        window.put(&[b'\\', letter]);
+    } else if byte < 32 {
+        window.put(&[b'\\', b'u', b'0', b'0', digit(byte / 16), digit(byte % 16)]);
+    } else {
+        window.put(&[byte]);
+    }
+}
+
+// The letter of a byte's short escape, or 0 where it has none.
+fn letter(byte: u8) -> u8
+    ensures { result ≡ escape_letter byte }
+{
+    match byte {
+        b'"' | b'\\' => byte,
+        8 => b'b',
+        12 => b'f',
+        10 => b'n',
+        13 => b'r',
+        9 => b't',
+        _ => 0,
+    }
+}
+
+// A hexadecimal digit.
+fn digit(value: u8) -> u8
+    requires { value < 16 }
+    ensures { result ≡ digit_char value }
+{
+    if value < 10 {
+        b'0' + value
+    } else {
+        b'a' - 10 + value
+    }
+}

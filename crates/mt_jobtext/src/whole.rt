@@ -1,0 +1,166 @@
+//! A whole text of a job, and how long it is.
+ghost use Rattle.std.specs.Prelude.{◌≡◌, ◌<◌, ◌≤◌, IfOk, length};
+ghost use Rattle.mt_model.specs.JobSteps.{done_at};
+ghost use Rattle.mt_jobtext.specs.Ended.{ended_as};
+ghost use Rattle.mt_jobtext.specs.JobTexts.{text_of};
+ghost use Rattle.mt_jobtext.specs.Pieces as pieces;
+ghost use Rattle.mt_jobtext.specs.Pieces.{HasStats, IsShowable, IsShown, joined_pieces, pieces_of};
+
+use crate::fill::put_all;
+use crate::pieces::{Shown, first_count, tasks};
+use crate::stats::{Stats, stats_of, sum};
+use crate::status::Ending;
+use crate::text::LiveText;
+use crate::window::Window;
+use mt_base::{Bytes, LAST_MOMENT};
+use mt_types::Job;
+use std::alloc::{AllocError, Global};
+
+/// A text of a job as it stands. Its only allocation is the text.
+pub fn live_text<B>(
+    alloc: Global,
+    login: &str,
+    job: &Job<B>,
+    text: LiveText,
+) -> Result<Bytes, AllocError>
+    requires { IsShowable job.now }
+    ensures { IfOk result (λ bytes. bytes ≡ text_of login.now job.now text) }
+{
+    let ending = Ending {
+        cancelled: job.cancelled,
+        done: job.done,
+    };
+    written(alloc, login, job, ending, text)
+}
+
+/// A text of a job as it will be once it is done at a moment, in seconds since 1970. Its only allocation is the text.
+pub fn closed_text<B>(
+    alloc: Global,
+    login: &str,
+    job: &Job<B>,
+    text: LiveText,
+    cancelled: bool,
+    moment: u64,
+) -> Result<Bytes, AllocError>
+    requires showable { IsShowable job.now }
+    requires moment { moment ≤ LAST_MOMENT }
+    ensures { IfOk result (λ bytes. bytes ≡ text_of login.now (done_at moment cancelled job.now) text) }
+{
+    let ending = Ending {
+        cancelled,
+        done: Some(moment),
+    };
+    written(alloc, login, job, ending, text)
+}
+
+/// How many bytes a text of a job as it stands has. It takes no memory: the error says that the number is not below
+/// 2 ^ 64 - 1, which no memory holds.
+pub fn text_len<B>(
+    alloc: Global,
+    login: &str,
+    job: &Job<B>,
+    text: LiveText,
+) -> Result<u64, AllocError>
+    requires { IsShowable job.now }
+    ensures { IfOk result (λ n. n ≡ length (text_of login.now job.now text)) }
+{
+    let ending = Ending {
+        cancelled: job.cancelled,
+        done: job.done,
+    };
+    let stats = stats_of(job)?;
+    let shown = shown(login, job, ending, stats, text);
+    let count = piece_count(&shown)?;
+    joined_len(alloc, &shown, count)
+}
+
+// A text of a job that ended so. Numbers that are not below 2 ^ 64 are told as want of memory, since none holds so much.
+fn written<B>(
+    alloc: Global,
+    login: &str,
+    job: &Job<B>,
+    ending: Ending,
+    text: LiveText,
+) -> Result<Bytes, AllocError>
+    requires { IsShowable (ended_as job.now ending) }
+    ensures { IfOk result (λ bytes. bytes ≡ text_of login.now (ended_as job.now ending) text) }
+{
+    let stats = stats_of(job)?;
+    let shown = shown(login, job, ending, stats, text);
+    let count = piece_count(&shown)?;
+    let len = joined_len(alloc, &shown, count)?;
+    joined(alloc, &shown, count, len)
+}
+
+// What a text is made of.
+fn shown<'a, B>(
+    login: &'a str,
+    job: &'a Job<B>,
+    ending: Ending,
+    stats: Stats,
+    text: LiveText,
+) -> Shown<'a, B>
+    requires showable { IsShowable (ended_as job.now ending) }
+    requires stats { HasStats job.now stats }
+    ensures shown { IsShown result }
+    ensures joined { joined_pieces result ≡ text_of login.now (ended_as job.now ending) text }
+{
+    Shown {
+        login,
+        job,
+        ending,
+        stats,
+        text: shown_text(job, text),
+    }
+}
+
+// A job without phases has no outputs but its inputs.
+fn shown_text<B>(job: &Job<B>, text: LiveText) -> LiveText
+    ensures { result ≡ pieces.shown_text job.now text }
+{
+    match text {
+        LiveText::Out => {
+            if job.document.phases.len() == 0 {
+                LiveText::In
+            } else {
+                LiveText::Out
+            }
+        }
+        other => other,
+    }
+}
+
+// How many pieces a text has.
+fn piece_count<B>(shown: &Shown<B>) -> Result<usize, AllocError>
+    ensures { IfOk result (λ n. n ≡ length (pieces_of shown.now)) }
+{
+    let tasks = tasks(shown);
+    let count = sum(first_count(shown) as u64, tasks.len() as u64)?;
+    Ok(count as usize)
+}
+
+// How many bytes a text has.
+fn joined_len<B>(alloc: Global, shown: &Shown<B>, count: usize) -> Result<u64, AllocError>
+    requires shown { IsShown shown.now }
+    requires count { count ≡ length (pieces_of shown.now) }
+    ensures { IfOk result (λ n. n ≡ length (joined_pieces shown.now)) }
+{
+    let mut window = Window::counting(alloc);
+    put_all(&mut window, shown, count);
+    if window.skip() == 0 {
+        return Err(AllocError);
+    }
+    Ok(u64::MAX - window.skip())
+}
+
+// The text of so many bytes.
+fn joined<B>(alloc: Global, shown: &Shown<B>, count: usize, len: u64) -> Result<Bytes, AllocError>
+    requires shown { IsShown shown.now }
+    requires count { count ≡ length (pieces_of shown.now) }
+    requires len { len ≡ length (joined_pieces shown.now) }
+    ensures { IfOk result (λ bytes. bytes ≡ joined_pieces shown.now) }
+{
+    let mut window = Window::of(alloc, len as usize)?;
+    put_all(&mut window, shown, count);
+    Ok(window.into_bytes())
+}
