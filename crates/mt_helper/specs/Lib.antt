@@ -1,0 +1,5 @@
+pub mod Ends
+pub mod Helping
+pub mod Spooling
+pub mod Streaming
+pub mod Words
