@@ -1,6 +1,7 @@
 #!/usr/bin/env python3
 """Prints the table of job_rows with the wanted answers: documents are judged by Python's json, lines by its hashlib,
 tasks by plain lists, records by its struct."""
+import datetime
 import hashlib
 import json
 import random
@@ -541,6 +542,177 @@ def fates_rows():
         copies_row(count, data)
 
 
+def identifier(kind, number):
+    last = f"{2 ** 63 + number:016x}"
+    return f"0000000{kind}-0000-8000-{last[:4]}-{last[4:]}"
+
+
+def time(moment):
+    return (datetime.datetime(1970, 1, 1) + datetime.timedelta(seconds=moment)).strftime("%Y-%m-%dT%H:%M:%S.000Z").rjust(24, "0")
+
+
+def compact(value):
+    return json.dumps(value, sort_keys=True, separators=(",", ":"), ensure_ascii=False)
+
+
+FAILURES = {
+    1: ("UserTaskError", "the command ended with a status other than 0"), 2: ("TaskOutputTooLarge", "the task's output is over the limit"),
+    3: ("TaskRecordError", "a helper's record is not whole"), 4: ("TaskPlaceRefused", "an output's place cannot hold an object"),
+    5: ("TaskObjectMissing", "a named object is not there"),
+}
+
+
+class Shown:
+    """A job as plain values, and its texts."""
+
+    def __init__(self, number, created, document):
+        self.number, self.created, self.document = number, created, json.loads(document)
+        self.inputs, self.missing, self.trace, self.ended, self.done, self.cancelled = [], [], [], False, None, False
+
+    def feed(self, phase):
+        return self.inputs if phase == 0 else [name for p, _, _, made in self.trace if p == phase - 1 and isinstance(made, list) for name in made]
+
+    def phases(self):
+        return self.document["phases"]
+
+    def task(self, p, k):
+        """What is told of a task besides its failure."""
+        if self.phases()[p].get("type", "map") == "reduce":
+            return {"reducer": k}
+        return {"input": self.feed(p)[k]}
+
+    def errors(self):
+        gone = [{"code": "ResourceNotFound", "input": it, "message": "no such object", "phase": 0} for it in self.missing]
+        return gone + [{"code": FAILURES[made[0]][0], "message": FAILURES[made[0]][1], "phase": p, "status": made[1], "stderr": made[2].decode("utf-8", "replace"), **self.task(p, k)}
+                       for p, k, _, made in self.trace if isinstance(made, tuple)]
+
+    def lines(self, name):
+        if name == "in":
+            return self.inputs
+        if name == "out":
+            return self.feed(len(self.phases()))
+        if name == "fail":
+            return self.missing + [self.task(p, k)["input"] for p, k, _, made in self.trace if isinstance(made, tuple) and "input" in self.task(p, k)]
+        if name == "err":
+            return [compact(it) for it in self.errors()]
+        return [compact({"outputs": len(made) if isinstance(made, list) else 0, "phase": p, "place": k, "position": q, "state": "ok" if isinstance(made, list) else "failed"})
+                for p, k, q, made in self.trace]
+
+    def status(self, done, cancelled):
+        phases = []
+        for it in self.phases():
+            kind = it.get("type", "map")
+            shown = {"assets": [path(name) for name in it.get("assets", [])], "exec": it["exec"], "type": kind}
+            if kind == "reduce":
+                shown["count"] = it.get("count", 1)
+            if it.get("init"):
+                shown["init"] = it["init"]
+            phases.append(shown)
+        return compact({
+            "cancelled": cancelled, "id": identifier(2, self.number), "inputDone": self.ended, "name": self.document.get("name", ""), "phases": phases,
+            "state": "running" if done is None else "done",
+            "stats": {"errors": len(self.errors()), "inputs": len(self.inputs), "outputs": len(self.feed(len(phases))), "tasksDone": len(self.trace)},
+            "timeCreated": time(self.created), "timeDone": None if done is None else time(done),
+        })
+
+    def text(self, name):
+        return (self.status(self.done, self.cancelled) if name == "status" else "".join(it + "\n" for it in self.lines(name))).encode()
+
+
+TEXTS = ("in", "out", "fail", "err", "tasks", "status")
+
+
+class Shows:
+    def job(self, number, created, document):
+        self.shown = Shown(number, created, document)
+        row(f"job {number} {created} {word(document.encode())}", "")
+
+    def input(self, name):
+        self.shown.inputs.append(path(name))
+        row(f"input {word(name.encode())}", "")
+
+    def missing(self, text):
+        self.shown.missing.append(path(text) or text)
+        row(f"missing {word(text.encode())}", "")
+
+    def good(self, p, k, q, *names):
+        self.shown.trace.append((p, k, q, [path(it) for it in names]))
+        row(" ".join(["good", str(p), str(k), str(q), *(word(it.encode()) for it in names)]), "")
+
+    def bad(self, p, k, q, failure, status, stderr):
+        self.shown.trace.append((p, k, q, (failure, status, stderr)))
+        row(f"bad {p} {k} {q} {failure} {status} {word(stderr)}", "")
+
+    def end(self):
+        self.shown.ended = True
+        row("input-end", "")
+
+    def done(self, moment, cancelled):
+        self.shown.done, self.shown.cancelled = moment, cancelled
+        row(f"done {moment} {int(cancelled)}", "")
+
+    def texts(self, *names):
+        for name in names or TEXTS:
+            text = self.shown.text(name)
+            count = 1 if name == "status" else len(self.shown.lines(name))
+            row(f"text {name}", f"{count} {len(text)} {answered(text)}" if text else f"{count} 0")
+
+    def closed(self, name, cancelled, moment):
+        text = self.shown.status(moment, cancelled).encode() if name == "status" else self.shown.text(name)
+        row(f"closed {name} {int(cancelled)} {moment}", answered(text))
+
+
+def texts():
+    print("\n# Texts of jobs (mt_jobtext): the number of lines, of bytes, and the text. JSON is Python's. First a job of one map phase, which runs.")
+    shows = Shows()
+    shows.job(4096, 0, '{"phases":[{"exec":"cat"}]}')
+    shows.texts()
+    for name in ("/l/stor/a", "/l/stor/a"):
+        shows.input(name)
+    shows.missing("/l/stor/none")
+    place = f"/l/jobs/{identifier(2, 4096)}/stor/a.0."
+    shows.good(0, 0, 3, place + identifier(3, 3 * 4096))
+    shows.texts()
+    shows.end()
+    shows.good(0, 1, 5, place + identifier(3, 5 * 4096))
+    print("# It waits to be finished: its texts as it will leave them, and then as it does.")
+    for name in TEXTS:
+        shows.closed(name, False, 0)
+    shows.done(0, False)
+    shows.texts()
+    print("\n# Outputs stand in the order of commits, and only those of the last phase; a failed map task of a later phase is named by what it read.")
+    shows.job(8192, 1234567890, '{"name":"a \\"b\\"","phases":[{"exec":"x"},{"exec":"y","init":"i","assets":["/l/stor/q"]},{"type":"reduce","exec":"z","count":2}]}')
+    for name in ("/l/stor/one", "/l/stor/two words", '/l/stor/t"h\\ree', "/l/public/é/\u2028"):
+        shows.input(name)
+    for text in ("x y", "/l", "", '"', "/m/stor/a", "~~/stor/b//c"):
+        shows.missing(text)
+    shows.good(0, 2, 7, "/l/stor/third", "/l/stor/third/more")
+    shows.bad(0, 0, 8, 1, 3, b"bad\n")
+    shows.good(0, 1, 9)
+    shows.good(0, 3, 10, "/l/stor/last")
+    shows.bad(1, 2, 11, 2, 0, b"")
+    shows.good(1, 0, 12, "/l/stor/k", "/l/stor/k")
+    shows.bad(1, 1, 13, 4, 0, b"\xff\xe2\x82 \xf0\x9f\x98\x80\x00\x1f\x7f\t\"\\")
+    shows.end()
+    shows.bad(2, 1, 14, 3, 255, b"\xc0\x80 tail\xe2\x82")
+    shows.good(2, 0, 15, "/l/stor/r")
+    shows.texts()
+    shows.done(1234567999, False)
+    shows.texts("status")
+    print("\n# A job that was cancelled, of which nothing ran.")
+    shows.job(2 ** 62 - 4096, 253402300799, '{"phases":[{"exec":"x","type":"reduce"}]}')
+    shows.input("/l/stor/a")
+    shows.closed("status", True, 253402300799)
+    shows.done(253402300799, True)
+    shows.texts()
+    print("\n# Each cause of a failure.")
+    shows.job(0, 951782400, '{"phases":[{"exec":"x"}]}')
+    for k in FAILURES:
+        shows.input(f"/l/stor/{k}")
+        shows.bad(0, k - 1, k, k, 7 * k, bytes([k]))
+    shows.texts("fail", "err", "tasks", "status")
+
+
 def main():
     print("# Job documents (mt_jobdoc), judged by Python's json. Names of assets are those of the login l.")
     for text in BY_HAND:
@@ -590,6 +762,7 @@ def main():
     print("\n# Chosen steps.")
     chosen(queues, 160)
     records_rows()
+    texts()
 
 
 main()

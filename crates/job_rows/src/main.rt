@@ -1,21 +1,24 @@
 //! `job_rows`: the calls of the crates that jobs stand on, row by row. Its stored run is their table of cases.
 //!
-//! - `documents`: `mt_jobdoc`. `lines`: `mt_split`. `queues`: `mt_sched`. `records`: `mt_records`.
+//! - `documents`: `mt_jobdoc`. `lines`: `mt_split`. `queues`: `mt_sched`. `records`: `mt_records`. `texts`: `mt_jobtext`.
 #![tactic(auto)]
 
 mod documents;
 mod lines;
 mod queues;
 mod records;
+mod texts;
 
 use mt_rows::{Row, Rows, Stop, print_table};
 use queues::Queues;
 use std::alloc::Global;
 use std::io;
+use texts::Texts;
 
 #[derive(Drop)]
 struct Jobs {
     queues: Queues,
+    texts: Texts,
 }
 
 impl Rows for Jobs {
@@ -29,6 +32,7 @@ impl Rows for Jobs {
         if documents::answer(alloc, line, row, out)?
             || lines::answer(alloc, row, out)?
             || self.queues.answer(alloc, row, out)?
+            || self.texts.answer(alloc, row, out)?
         {
             return Ok(());
         }
@@ -39,6 +43,7 @@ impl Rows for Jobs {
 fn main(rt: HostRuntime) -> io::Result<()> {
     let mut jobs = Jobs {
         queues: Queues::new(rt.alloc()),
+        texts: Texts::new(),
     };
     print_table(&rt, &mut jobs)
 }

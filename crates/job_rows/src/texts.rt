@@ -1,0 +1,243 @@
+//! Rows of `mt_jobtext`: a job that is made step by step, and its texts. The login is `l`.
+ghost use Rattle.std.specs.Prelude.{◌≤◌, IfSome, IsTrue};
+ghost use Rattle.mt_jobtext.specs.Pieces.{IsShowable};
+
+use mt_base::{Bytes, LAST_MOMENT, NUMBERS_END, Sequence, Text};
+use mt_jobdoc::read;
+use mt_jobtext::{LiveText, closed_text, line_count, live_text, text_len};
+use mt_path::Path;
+use mt_rows::{Row, Stop, put_escaped};
+use mt_types::{Body, InputLine, Item, Job, JobDocument, Outcome, TaskFailure, TraceEntry};
+use std::alloc::Global;
+
+/// Whose names they are.
+const LOGIN: &str = "l";
+
+/// The job of the rows before.
+#[derive(Drop)]
+pub struct Texts {
+    job: Option<Job<Body>>,
+}
+
+fn narrow(number: u64) -> Result<u32, Stop> {
+    if number < 1 << 32 {
+        Ok(number as u32)
+    } else {
+        Err(Stop::NoSuchRow)
+    }
+}
+
+fn path(alloc: Global, row: &Row, place: usize) -> Result<Path, Stop> {
+    match Path::plain(alloc, LOGIN, row.bytes(place)?) {
+        Ok(path) => Ok(path),
+        Err(_) => Err(Stop::NoSuchRow),
+    }
+}
+
+fn item(alloc: Global, row: &Row, place: usize) -> Result<Item<Body>, Stop> {
+    Ok(Item {
+        name: path(alloc, row, place)?,
+        root: Text::from_str(alloc, "x")?,
+        body: Body {
+            first: 0,
+            len: 0,
+            md5: [0; 16],
+        },
+        reducer: None,
+    })
+}
+
+// The items that the words from a place on name.
+fn items(alloc: Global, row: &Row, from: usize) -> Result<Sequence<Item<Body>>, Stop> {
+    let mut items = Sequence::new(alloc);
+    for place in from..row.len() {
+        items.push(item(alloc, row, place)?)?;
+    }
+    Ok(items)
+}
+
+// A posted line: a path where the word names one.
+fn line(alloc: Global, row: &Row, place: usize) -> Result<InputLine, Stop> {
+    match Path::plain(alloc, LOGIN, row.bytes(place)?) {
+        Ok(path) => Ok(InputLine::Named(path)),
+        Err(_) => Ok(InputLine::Other(Text::from_str(alloc, row.text(place)?)?)),
+    }
+}
+
+fn failure(row: &Row, place: usize) -> Result<TaskFailure, Stop> {
+    match row.number(place)? {
+        1 => Ok(TaskFailure::UserTaskError),
+        2 => Ok(TaskFailure::TaskOutputTooLarge),
+        3 => Ok(TaskFailure::TaskRecordError),
+        4 => Ok(TaskFailure::TaskPlaceRefused),
+        5 => Ok(TaskFailure::TaskObjectMissing),
+        _ => Err(Stop::NoSuchRow),
+    }
+}
+
+fn bad(alloc: Global, row: &Row) -> Result<Outcome<Body>, Stop> {
+    Ok(Outcome::Bad {
+        failure: failure(row, 4)?,
+        status: narrow(row.number(5)?)?,
+        stderr: Bytes::from_slice(alloc, row.bytes(6)?)?,
+    })
+}
+
+fn entry(row: &Row, outcome: Outcome<Body>) -> Result<TraceEntry<Body>, Stop> {
+    Ok(TraceEntry {
+        phase: narrow(row.number(1)?)?,
+        place: row.number(2)?,
+        position: row.number(3)?,
+        outcome,
+    })
+}
+
+fn made(alloc: Global, number: u64, created: u64, document: JobDocument) -> Job<Body> {
+    Job {
+        number,
+        document,
+        assets: Sequence::new(alloc),
+        inputs: Sequence::new(alloc),
+        missing: Sequence::new(alloc),
+        ended: false,
+        cancelled: false,
+        created,
+        done: None,
+        trace: Sequence::new(alloc),
+    }
+}
+
+fn kind(row: &Row, place: usize) -> Result<LiveText, Stop> {
+    match row.text(place)? {
+        "in" => Ok(LiveText::In),
+        "out" => Ok(LiveText::Out),
+        "fail" => Ok(LiveText::Fail),
+        "err" => Ok(LiveText::Err),
+        "tasks" => Ok(LiveText::Tasks),
+        "status" => Ok(LiveText::Status),
+        _ => Err(Stop::NoSuchRow),
+    }
+}
+
+// Whether the texts of a job may be asked for.
+fn is_showable(job: &Job<Body>) -> bool
+    ensures { IsTrue result → IsShowable job.now }
+{
+    if job.number >= NUMBERS_END || job.created > LAST_MOMENT {
+        return false;
+    }
+    is_moment(job.done)
+}
+
+// Whether what is there is a moment.
+fn is_moment(done: Option<u64>) -> bool
+    ensures { IsTrue result → IfSome done (λ moment. moment ≤ LAST_MOMENT) }
+{
+    match done {
+        None => true,
+        Some(moment) => moment <= LAST_MOMENT,
+    }
+}
+
+// How many lines and bytes a text has, and the text.
+fn put_text(alloc: Global, job: &Job<Body>, row: &Row, out: &mut String) -> Result<bool, Stop> {
+    if !is_showable(job) {
+        return Err(Stop::NoSuchRow);
+    }
+    let kind = kind(row, 1)?;
+    let len = text_len(alloc, LOGIN, job, kind)?;
+    write!(out, "{} {len}", line_count(job, kind)?)?;
+    put_behind(live_text(alloc, LOGIN, job, kind)?.as_slice(), out)
+}
+
+// Bytes behind a blank, if there are any.
+fn put_behind(bytes: &[u8], out: &mut String) -> Result<bool, Stop> {
+    if !bytes.is_empty() {
+        out.push(' ')?;
+        put_escaped(out, bytes)?;
+    }
+    Ok(true)
+}
+
+// A text as a job will leave it.
+fn put_closed(alloc: Global, job: &Job<Body>, row: &Row, out: &mut String) -> Result<bool, Stop> {
+    let moment = row.number(3)?;
+    if !is_showable(job) || moment > LAST_MOMENT {
+        return Err(Stop::NoSuchRow);
+    }
+    let cancelled = row.number(2)? == 1;
+    let text = closed_text(alloc, LOGIN, job, kind(row, 1)?, cancelled, moment)?;
+    put_escaped(out, text.as_slice())?;
+    Ok(true)
+}
+
+fn add_input(alloc: Global, job: &mut Job<Body>, row: &Row) -> Result<bool, Stop> {
+    job.inputs.push(item(alloc, row, 1)?)?;
+    Ok(true)
+}
+
+fn add_missing(alloc: Global, job: &mut Job<Body>, row: &Row) -> Result<bool, Stop> {
+    job.missing.push(line(alloc, row, 1)?)?;
+    Ok(true)
+}
+
+fn add_entry(job: &mut Job<Body>, row: &Row, outcome: Outcome<Body>) -> Result<bool, Stop> {
+    job.trace.push(entry(row, outcome)?)?;
+    Ok(true)
+}
+
+fn end_input(job: &mut Job<Body>) -> Result<bool, Stop> {
+    job.ended = true;
+    Ok(true)
+}
+
+fn set_done(job: &mut Job<Body>, row: &Row) -> Result<bool, Stop> {
+    job.done = Some(row.number(1)?);
+    job.cancelled = row.number(2)? == 1;
+    Ok(true)
+}
+
+// The answer to a row on a job, if it is one.
+fn on_job(alloc: Global, job: &mut Job<Body>, row: &Row, out: &mut String) -> Result<bool, Stop> {
+    match row.text(0)? {
+        "input" => add_input(alloc, job, row),
+        "missing" => add_missing(alloc, job, row),
+        "good" => add_entry(job, row, Outcome::Good(items(alloc, row, 4)?)),
+        "bad" => add_entry(job, row, bad(alloc, row)?),
+        "input-end" => end_input(job),
+        "done" => set_done(job, row),
+        "text" => put_text(alloc, job, row, out),
+        "closed" => put_closed(alloc, job, row, out),
+        _ => Ok(false),
+    }
+}
+
+impl Texts {
+    /// No job.
+    pub fn new() -> Texts {
+        Texts { job: None }
+    }
+
+    // Makes a job of this number, moment and document.
+    fn make(&mut self, alloc: Global, row: &Row) -> Result<(), Stop> {
+        match read(alloc, LOGIN, row.bytes(3)?) {
+            Ok(document) => {
+                self.job = Some(made(alloc, row.number(1)?, row.number(2)?, document));
+                Ok(())
+            }
+            Err(_) => Err(Stop::NoSuchRow),
+        }
+    }
+
+    /// The answer to a row of this crate, if it is one.
+    pub fn answer(&mut self, alloc: Global, row: &Row, out: &mut String) -> Result<bool, Stop> {
+        if row.call() == b"job".as_slice() {
+            self.make(alloc, row)?;
+            return Ok(true);
+        }
+        match &mut self.job {
+            None => Ok(false),
+            Some(job) => on_job(alloc, job, row, out),
+        }
+    }
+}
