@@ -3,7 +3,7 @@
 //!
 //! - `bytes`, `text`, `sequence`: the three small types, by which plain data is built.
 //! - `duplicate`: the one trait for copies.
-//! - `blanks`: spaces and tabs; `limits`: what numbers are bounded by.
+//! - `blanks`: spaces and tabs; `plain`: zeros, and ASCII as a text; `limits`: what numbers are bounded by.
 //! - `specs/Blanks`, `specs/Counts`, `specs/Lists`, `specs/Numbers`: blanks, counts that never fall, prefixes, numbers as bytes and text.
 #![tactic(auto)]
 
@@ -11,6 +11,7 @@ mod blanks;
 mod bytes;
 mod duplicate;
 mod limits;
+mod plain;
 mod sequence;
 mod text;
 
@@ -18,5 +19,6 @@ pub use blanks::{is_blank, trimmed};
 pub use bytes::Bytes;
 pub use duplicate::{Duplicate, copy_all};
 pub use limits::{LAST_MOMENT, NUMBERS_END};
+pub use plain::{ascii, zeros};
 pub use sequence::Sequence;
 pub use text::Text;

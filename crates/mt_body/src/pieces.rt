@@ -11,6 +11,7 @@ ghost use Rattle.mt_body.specs.Storing.{LackIs, LastIs, Stores};
 
 use crate::fill::{End, next_piece};
 use md5::{Digest, Md5};
+use mt_base::zeros;
 use mt_disk::Disk;
 use mt_edge::Source;
 use mt_log::{AppendError, Log, Run};
@@ -30,14 +31,6 @@ pub enum Storing {
     Disk,
     /// Out of memory. Nothing was read or written.
     Memory,
-}
-
-fn zeros(alloc: Global, len: usize) -> Result<Vec<u8>, AllocError>
-    ensures { IfOk result (λ v. length v.items ≡ len) }
-{
-    let mut bytes = Vec::with_capacity(alloc, len)?;
-    bytes.resize(len, 0)?;
-    Ok(bytes)
 }
 
 // The answer where no more is read.

@@ -16,7 +16,7 @@ ghost use Rattle.mt_connection.specs.Steps.{CanBeRead, IsBodyOf, Loads, Sends, t
 ghost use Rattle.mt_connection.specs.Transcript as words;
 
 use crate::end::{ConnectionEnd, Step};
-use mt_base::Bytes;
+use mt_base::{Bytes, zeros};
 use mt_body::Sent;
 use mt_disk::Disk;
 use mt_edge::Sink;
@@ -35,14 +35,6 @@ fn is_head(head: &Head) -> bool
     ensures { result ≡ words.is_head head.now }
 {
     head.method.as_str() == "HEAD"
-}
-
-fn zeros(alloc: Global, len: usize) -> Result<Vec<u8>, AllocError>
-    ensures { IfOk result (λ v. length v.items ≡ len) }
-{
-    let mut bytes = Vec::with_capacity(alloc, len)?;
-    bytes.resize(len, 0)?;
-    Ok(bytes)
 }
 
 // What the writing of a whole text makes of its exchange.

@@ -1,7 +1,7 @@
 //! Commands on rows, over a tree: whether one is allowed, and what it makes of the rows.
 ghost use Rattle.std.specs.Prelude.{◌≡◌, ◌<◌, IfOk, OnOk, OnErr, None, option_map};
 ghost use Rattle.mt_model.specs.CommandStep.{allowed, change, linked, outside_jobs};
-ghost use Rattle.mt_model.specs.Rows.{at, link_refusal, object_at, put_refusal, refuse_if, source_refusal};
+ghost use Rattle.mt_model.specs.Rows.{link_refusal, object_at, put_refusal, refuse_if};
 ghost use Rattle.mt_model.specs.UploadSteps.{is_jobs};
 ghost use Rattle.mt_tree.specs.Answer.{answer};
 ghost use Rattle.mt_types.specs.Kinds.{OnRows, kind_of};
@@ -22,22 +22,11 @@ fn outside_jobs(path: &Path) -> Result<(), Refusal>
     }
 }
 
-// Whether what stands at a path may be linked to.
-fn may_be_linked(tree: &Tree<Body>, source: &Path) -> Result<(), Refusal>
-    ensures { result ≡ answer (source_refusal (at tree.now source.now)) }
-{
-    match tree.get(source) {
-        None => Err(Refusal::LinkNotFound),
-        Some(Entry::Directory { .. }) => Err(Refusal::LinkNotObject),
-        Some(Entry::Object(_)) => Ok(()),
-    }
-}
-
 // Whether a link may be put at a path.
 fn may_link(tree: &Tree<Body>, path: &Path, source: &Path) -> Result<(), Refusal>
     ensures { result ≡ answer (link_refusal tree.now path.now source.now) }
 {
-    may_be_linked(tree, source)?;
+    tree.may_be_linked(source)?;
     tree.may_put(path)
 }
 

@@ -6,7 +6,7 @@ use Rattle.std.specs.Result.{result_ok}
 use Rattle.std.proofs.lemmas.Bool.{and_parts, leb-true, le-leb}
 use Rattle.std.proofs.lemmas.List.{length-append}
 use Rattle.mt_bytes.specs.Decimals.{decimal_number}
-use Rattle.mt_path.specs.AccountPath.{AccountPath, IsPath, area_name, is_login_byte, path_text, slashed}
+use Rattle.mt_path.specs.AccountPath.{AccountPath, IsPath, area_name, is_login, is_login_byte, path_text, slashed}
 use Rattle.mt_path.specs.Names.{path_of_text}
 use Rattle.mt_path.specs.declared.limits.TheConstants.{LONGEST_LOGIN}
 use Rattle.mt_split.specs.declared.key.KeyRule.{KeyRule}
@@ -19,7 +19,7 @@ use Rattle.mt_helper.specs.declared.status.Refusal.TheVariants as refusal
 use Rattle.mt_helper.specs.declared.tool.Tool.{Tool}
 use Rattle.mt_helper.specs.declared.tool.Tool.TheVariants.{Pipe, Tee, Cat, Split}
 use Rattle.mt_helper.specs.Helping.{IsFit}
-use Rattle.mt_helper.specs.Words.{asked_by, byte_in, cat_of, fields_in, is_login, no_option, number_within, once, options_from, or_bad_path, pipe_of, piped, piped_to, place_text, place_texts, placed, placed_or, reducer_in, rule_by, split_by, split_into, split_of, tee_of, tool_of, with_option, within}
+use Rattle.mt_helper.specs.Words.{asked_by, byte_in, cat_of, fields_in, no_option, number_within, once, options_from, or_bad_path, pipe_of, piped, piped_to, place_text, place_texts, placed, placed_or, reducer_in, rule_by, split_by, split_into, split_of, tee_of, tool_of, with_option, within}
 
 -- ---- how many records a tool makes
 

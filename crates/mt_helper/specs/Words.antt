@@ -1,11 +1,10 @@
 -- The words of a helper: a login, a tool, and what the tool is asked for.
 use Rattle.std.specs.Prelude.{ℕ, Bool, true, false, ◌&&◌, ◌==◌, nat_le, bytes_eq, List, [], ◌∷◌, length, map, codes, Option, Some, None, option_map, option_and_then, Result, Ok, Err, if◌then◌else◌}
-use Rattle.std.specs.List.{list_all, slice_split}
+use Rattle.std.specs.List.{slice_split}
 use Rattle.std.specs.Result.{result_ok}
 use Rattle.mt_bytes.specs.Decimals.{decimal_number}
-use Rattle.mt_path.specs.AccountPath.{is_login_byte, path_text}
+use Rattle.mt_path.specs.AccountPath.{is_login, path_text}
 use Rattle.mt_path.specs.Names.{path_of_text}
-use Rattle.mt_path.specs.declared.limits.TheConstants.{LONGEST_LOGIN}
 use Rattle.mt_split.specs.declared.key.KeyRule.{KeyRule}
 use Rattle.mt_split.specs.declared.key.KeyRule.TheVariants.{Line, Fields}
 use Rattle.mt_helper.specs.declared.limits.TheConstants.{MOST_PARTS, MOST_FIELDS, LAST_FIELD}
@@ -16,10 +15,6 @@ use Rattle.mt_helper.specs.declared.tool.Tool.{Tool}
 use Rattle.mt_helper.specs.declared.tool.Tool.TheVariants.{Pipe, Tee, Cat, Split}
 
 -- ---- values
-
--- 1 to 64 letters, digits, `_` or `-`
-abbrev pub is_login : List ℕ → Bool
-is_login login = nat_le 1 (length login) && (nat_le (length login) LONGEST_LOGIN && list_all is_login_byte login)
 
 -- a number between two bounds
 abbrev pub within : ℕ → ℕ → Option ℕ → Option ℕ

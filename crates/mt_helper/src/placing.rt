@@ -6,9 +6,9 @@ ghost use Rattle.mt_helper.specs.Words.{asked_by, place_text, place_texts, place
 
 use crate::status::{Refusal, WordsError};
 use crate::tool::Tool;
-use crate::words::{is_login, tool_of};
+use crate::words::tool_of;
 use mt_base::{Sequence, Text};
-use mt_path::{Path, PathError};
+use mt_path::{Path, PathError, is_login};
 use std::alloc::{AllocError, Global};
 
 // The path that a text names, if it names one of this account.
@@ -101,7 +101,7 @@ pub(crate) fn asked_by(alloc: Global, words: &[String]) -> Result<Tool, WordsErr
         return Err(WordsError::Refused(Refusal::Usage));
     };
     let login = login.as_str();
-    if !is_login(login) {
+    if !is_login(login.as_bytes()) {
         return Err(WordsError::Refused(Refusal::Usage));
     }
     let Some(tool) = tool_of(alloc, name.as_str(), others)? else {

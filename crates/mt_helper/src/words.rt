@@ -1,8 +1,7 @@
 //! The words of a helper, and what they ask for.
 ghost use Rattle.std.specs.Prelude.{◌≡◌, ◌==◌, Ok, Err, IfOk, IfSome, map, string_bytes};
-ghost use Rattle.std.specs.List.{list_all, slice_split};
-ghost use Rattle.mt_path.specs.AccountPath.{is_login_byte};
-ghost use Rattle.mt_helper.specs.Words.{all_some, asked_by, byte_in, cat_of, field_in, fields_among, fields_in, is_login, no_option, number_within, once, options_from, pipe_of, piped, piped_to, reducer_in, rule_by, split_by, split_of, taken, tee_of, tool_of, with_option};
+ghost use Rattle.std.specs.List.{slice_split};
+ghost use Rattle.mt_helper.specs.Words.{all_some, asked_by, byte_in, cat_of, field_in, fields_among, fields_in, no_option, number_within, once, options_from, pipe_of, piped, piped_to, reducer_in, rule_by, split_by, split_of, taken, tee_of, tool_of, with_option};
 
 use crate::limits::{LAST_FIELD, MOST_FIELDS, MOST_PARTS};
 use crate::options::SplitOptions;
@@ -11,30 +10,6 @@ use mt_base::{Sequence, Text};
 use mt_bytes::read_decimal;
 use mt_split::KeyRule;
 use std::alloc::{AllocError, Global};
-
-/// The longest login, in bytes.
-const LONGEST_LOGIN: usize = 64;
-
-// Whether a byte may stand in a login.
-fn may_be_in_login(byte: u8) -> bool
-    ensures { result ≡ is_login_byte byte }
-{
-    byte.is_ascii_alphanumeric() || byte == b'_' || byte == b'-'
-}
-
-// Whether all bytes may stand in a login.
-fn are_login_bytes(login: &[u8]) -> bool
-    ensures { result ≡ list_all is_login_byte login.now }
-{
-    login.iter().all(|byte| may_be_in_login(*byte))
-}
-
-/// Whether a word is a login.
-pub(crate) fn is_login(login: &str) -> bool
-    ensures { result ≡ is_login login.now }
-{
-    1 <= login.len() && login.len() <= LONGEST_LOGIN && are_login_bytes(login.as_bytes())
-}
 
 // The number that a text writes, where it is between two bounds.
 fn number_within(least: u32, most: u32, text: &[u8]) -> Option<u32>

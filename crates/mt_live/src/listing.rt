@@ -1,15 +1,14 @@
 //! A line of a page of a directory.
-ghost use Rattle.std.specs.Prelude.{◌≡◌, ◌<◌, ◌≤◌, ◌^◌, ◌++◌, IfOk, IsAscii};
+ghost use Rattle.std.specs.Prelude.{◌≡◌, ◌<◌, ◌≤◌, ◌^◌, ◌++◌, IfOk};
 ghost use Rattle.serde_json.specs.View.{view};
 ghost use Rattle.serde_json.specs.Written.{compact_text};
 ghost use Rattle.mt_live.specs.LiveTexts.{IsEntryListable, directory_data, line_data, object_data, page_line};
 
-use mt_base::{LAST_MOMENT, Text};
+use mt_base::{LAST_MOMENT, Text, ascii};
 use mt_ident::{iso_time, uuid_text};
 use mt_types::{Body, Entry};
 use serde_json::{Value, json};
 use std::alloc::{AllocError, Global};
-use std::str;
 
 /// The line of a child of a directory, by its name and what stands there: JSON (RFC 8259), ended by a line feed. An
 /// object is `{"etag":..,"mtime":..,"name":..,"size":..,"type":"object"}`, a directory has no `etag` and no `size`.
@@ -66,15 +65,4 @@ fn object_value(
     let time = iso_time(mtime);
     let time = ascii(&time);
     json!(in alloc; {"etag": etag, "mtime": time, "name": name, "size": size, "type": "object"})
-}
-
-// ASCII as a text.
-fn ascii(bytes: &[u8]) -> &str
-    requires { IsAscii bytes.now }
-    ensures { result.now ≡ bytes.now }
-{
-    match str::from_utf8(bytes) {
-        Ok(text) => text,
-        Err(_) => unreachable!(),
-    }
 }

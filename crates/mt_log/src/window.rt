@@ -8,6 +8,7 @@ ghost use Rattle.md5.specs.Md5.{md5};
 ghost use Rattle.mt_log.specs.Scan.{IsWindow, rest_at};
 
 use md5::{Digest, Md5};
+use mt_base::zeros;
 use mt_disk::{Disk, DiskFault, FileNo};
 use std::alloc::{AllocError, Global};
 use std::marker::Model;
@@ -36,14 +37,6 @@ impl Model for Window {
 
     // What is held lies within the piece, and within the file.
     ghost invariant = { λ w. (w.from ≤ w.to) × (w.to ≤ length w.piece.items) × (length w.piece.items ≡ 262144) × (w.at + (w.to - w.from) ≤ w.end) };
-}
-
-fn zeros(alloc: Global, len: usize) -> Result<Vec<u8>, AllocError>
-    ensures { IfOk result (λ v. length v.items ≡ len) }
-{
-    let mut bytes = Vec::with_capacity(alloc, len)?;
-    bytes.resize(len, 0)?;
-    Ok(bytes)
 }
 
 // Moves a part of a list to its front.

@@ -57,6 +57,10 @@ pub record IsLogin (name : List ℕ) : Type 0 where
   pub short : length name ≤ LONGEST_LOGIN
   pub plain : IsTrue (list_all is_login_byte name)
 
+-- the same, as a test
+abbrev pub is_login : List ℕ → Bool
+is_login name = nat_le 1 (length name) && (nat_le (length name) LONGEST_LOGIN && list_all is_login_byte name)
+
 -- each name behind a slash
 abbrev pub slashed : List (List ℕ) → List ℕ
 slashed names = flat_map (λ name. slash ∷ name) names

@@ -1,7 +1,7 @@
 //! Which bytes may stand in a path.
 ghost use Rattle.std.specs.Prelude.{◌≡◌, ◌↔◌, IsTrue};
 ghost use Rattle.std.specs.List.{list_all, list_any};
-ghost use Rattle.mt_path.specs.AccountPath.{IsComponent, IsLogin, is_barred, is_component, is_login_byte};
+ghost use Rattle.mt_path.specs.AccountPath.{IsComponent, IsLogin, is_barred, is_component, is_login, is_login_byte};
 
 use crate::limits::{LONGEST_COMPONENT, LONGEST_LOGIN};
 use std::str;
@@ -26,7 +26,8 @@ pub fn is_component(name: &[u8]) -> bool
 
 /// Whether a name is one of an account: 1 to 64 letters, digits, `_` or `-`. Takes no memory.
 pub fn is_login(name: &[u8]) -> bool
-    ensures { IsTrue result ↔ IsLogin name.now }
+    ensures value { result ≡ is_login name.now }
+    ensures exact { IsTrue result ↔ IsLogin name.now }
 {
     if name.is_empty() || name.len() > LONGEST_LOGIN {
         return false;

@@ -23,3 +23,4 @@ pub use limits::{LONGEST_COMPONENT, LONGEST_LOGIN, LONGEST_PATH};
 pub use mt_base::{Bytes, Duplicate, Sequence, Text};
 pub use names::target_names;
 pub use path::Path;
+pub use pieces::query_at;

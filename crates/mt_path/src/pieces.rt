@@ -1,6 +1,6 @@
 //! The pieces of names, between their slashes. They are taken from the name as it stands, no more than decide
 //! what it names, and each takes memory only where the names so far leave it room.
-ghost use Rattle.std.specs.Prelude.{◌≡◌, ◌≤◌, ◌<◌, ◌==◌, [], length, map, position, take, bytes_eq, codes, if◌then◌else◌, nat_eq, IfOk, IfErr};
+ghost use Rattle.std.specs.Prelude.{◌≡◌, ◌≤◌, ◌<◌, ◌==◌, [], length, map, position, take, bytes_eq, codes, if◌then◌else◌, nat_eq, IfOk, IfErr, IfSome};
 ghost use Rattle.std.specs.List.{before_first, starts_with};
 ghost use Rattle.percent_encoding.specs.Percent.{percent_decode as decoded_bytes_of};
 ghost use Rattle.mt_path.specs.AccountPath.{slashed};
@@ -112,9 +112,11 @@ fn before_query(raw: &[u8]) -> &[u8]
     }
 }
 
-// The place of the first question mark.
-fn query_at(raw: &[u8]) -> Option<usize>
-    ensures { result ≡ position (λ b. b == question_mark) raw.now }
+/// The place of the first question mark of a request target, before which its path ends (RFC 9110, section 4.1); none where
+/// it has no query.
+pub fn query_at(raw: &[u8]) -> Option<usize>
+    ensures place { result ≡ position (λ b. b == question_mark) raw.now }
+    ensures within { IfSome result (λ place. place < length raw.now) }
 {
     raw.iter().position(|b| *b == b'?')
 }

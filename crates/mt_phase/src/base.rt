@@ -1,13 +1,12 @@
 //! What the names of a task's outputs begin with.
-ghost use Rattle.std.specs.Prelude.{◌≡◌, ◌<◌, ◌∷◌, ◌++◌, ◌^◌, IfOk, IsAscii};
+ghost use Rattle.std.specs.Prelude.{◌≡◌, ◌<◌, ◌∷◌, ◌++◌, ◌^◌, IfOk};
 ghost use Rattle.mt_path.specs.AccountPath.{path_text, slash};
 ghost use Rattle.mt_model.specs.Names.{job_stor, output_prefix};
 
 use itoa::Buffer;
-use mt_base::Text;
+use mt_base::{Text, ascii};
 use mt_ident::uuid_text;
 use std::alloc::{AllocError, Global};
-use std::str;
 
 /// The name that outputs without a place begin with, as `/me/jobs/ID/stor/log.0.`.
 pub(crate) fn base(
@@ -32,15 +31,4 @@ pub(crate) fn base(
     text.push_str(number.format(phase))?;
     text.push_str(".")?;
     Ok(Text::from_string(text))
-}
-
-// ASCII as a text.
-fn ascii(bytes: &[u8]) -> &str
-    requires { IsAscii bytes.now }
-    ensures { result.now ≡ bytes.now }
-{
-    match str::from_utf8(bytes) {
-        Ok(text) => text,
-        Err(_) => unreachable!(),
-    }
 }

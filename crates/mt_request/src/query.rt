@@ -1,11 +1,11 @@
 //! The query of a request target.
-ghost use Rattle.std.specs.Prelude.{◌≡◌, ◌==◌, ◌<◌, length, position, IfOk, IfSome};
+ghost use Rattle.std.specs.Prelude.{◌≡◌, IfOk};
 ghost use Rattle.std.specs.Option.{option_copied};
-ghost use Rattle.mt_path.specs.Names.{question_mark};
 ghost use Rattle.mt_request.specs.Query.{first_pair, limit_in, page_of, query_of};
 
 use mt_base::{Bytes, Text};
 use mt_bytes::read_decimal;
+use mt_path::query_at;
 use std::alloc::{AllocError, Global};
 
 /// A page has at most so many rows.
@@ -31,14 +31,6 @@ pub fn query_of(target: &[u8]) -> &[u8]
         Some(place) => &target[place + 1..],
         None => &[],
     }
-}
-
-// The place of the first question mark.
-fn query_at(target: &[u8]) -> Option<usize>
-    ensures place { result ≡ position (λ b. b == question_mark) target.now }
-    ensures within { IfSome result (λ place. place < length target.now) }
-{
-    target.iter().position(|b| *b == b'?')
 }
 
 // The value of the first pair of a name.

@@ -6,7 +6,6 @@ ghost use Rattle.mt_model.specs.Resolve.{can_hold_object, is_object_at, with_dir
 ghost use Rattle.mt_model.specs.Rows.{IsTree, at, is_directory, parent_refusal, put_refusal};
 ghost use Rattle.mt_resolve.specs.Undo.{StaysBack};
 
-use crate::objects::object_at;
 use crate::undo::{Undo, make_noted};
 use mt_base::copy_all;
 use mt_ident::{uuid_number, uuid_text};
@@ -65,7 +64,7 @@ fn has_object_above<B>(alloc: Global, tree: &Tree<B>, path: &Path) -> Result<boo
 {
     for count in 0..path.len() {
         let above = front(alloc, path, count)?;
-        if object_at(tree, &above).is_some() {
+        if tree.object_at(&above).is_some() {
             return Ok(true);
         }
     }

@@ -9,7 +9,6 @@ ghost use Rattle.mt_resolve.specs.Undo.{LeadsBack, StaysBack};
 
 use crate::committing::Committing;
 use crate::names::anonymous_place;
-use crate::objects::object_at;
 use crate::places::{can_hold, make_parents};
 use crate::undo::{Undo, put_noted, take_back};
 use mt_tree::Tree;
@@ -181,7 +180,7 @@ fn refer<B: Duplicate>(
     ensures taken { IfOk result (λ refused. taken_or refused (taken_of tree.now taking.new) ≡ take_reference c.now name.now (taken_of tree.now taking.old) (object_at tree.now name.now)) }
     ensures changes { taking.new.changes ≡ taking.old.changes }
 {
-    match object_at(tree, name) {
+    match tree.object_at(name) {
         Some(object) => {
             give(alloc, c, name.copy(alloc)?, &object.body, None, taking)?;
             Ok(None)

@@ -4,7 +4,6 @@ ghost use Rattle.mt_types.specs.declared.object.Entry.TheVariants as entry;
 ghost use Rattle.mt_model.specs.Rows.{IsTree, make_directory_refusal, object_at, put_refusal, with_row};
 ghost use Rattle.mt_resolve.specs.Undo.{MayAllBack, MayOneBack, StaysBack, all_back, one_back};
 
-use crate::objects::object_at;
 use mt_tree::Tree;
 use mt_types::{Duplicate, Object, Path};
 use std::alloc::{AllocError, Global};
@@ -24,7 +23,7 @@ fn copy_at<B: Duplicate>(
 ) -> Result<Option<Object<B>>, AllocError>
     ensures { IfOk result (λ o. o ≡ object_at tree.now path.now) }
 {
-    match object_at(tree, path) {
+    match tree.object_at(path) {
         Some(object) => Ok(Some(object.copy(alloc)?)),
         None => Ok(None),
     }

@@ -5,7 +5,8 @@ use Rattle.std.proofs.lemmas.Bool.Decides.{nat_tests}
 use Rattle.std.proofs.lemmas.Option.{none-some}
 use Rattle.mt_base.specs.declared.limits.TheConstants.{LAST_MOMENT}
 use Rattle.mt_bytes.specs.Decimals.{decimal_number}
-use Rattle.mt_settings.specs.Words.{given_by, goes_on, is_login, is_some_text, is_helper, no_option, number_within, once, option_named, options_from, placed, text_if, with_named, with_option, within}
+use Rattle.mt_path.specs.AccountPath.{is_login}
+use Rattle.mt_settings.specs.Words.{given_by, goes_on, is_some_text, is_helper, no_option, number_within, once, option_named, options_from, placed, text_if, with_named, with_option, within}
 use Rattle.mt_settings.specs.declared.fault.OptionFault.{OptionFault}
 use Rattle.mt_settings.specs.declared.fault.OptionName.{OptionName}
 use Rattle.mt_settings.specs.declared.fault.OptionName.TheVariants as option

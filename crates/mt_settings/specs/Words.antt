@@ -2,9 +2,9 @@
 -- is the answer.
 use Rattle.std.specs.Prelude.{ℕ, ◌+◌, Bool, true, false, ◌&&◌, ◌||◌, ◌==◌, not, nat_eq, nat_le, nat_lt, bytes_eq, List, [], ◌∷◌, ◌++◌, length, codes, Option, Some, None, Result, Ok, Err, if◌then◌else◌}
 use Rattle.std.specs.List.{list_all, list_any, starts_with}
-use Rattle.std.specs.Char.{is_ascii_alphanumeric}
 use Rattle.mt_base.specs.declared.limits.TheConstants.{LAST_MOMENT}
 use Rattle.mt_bytes.specs.Decimals.{decimal_number}
+use Rattle.mt_path.specs.AccountPath.{is_login}
 use Rattle.mt_settings.specs.declared.fault.OptionFault.{OptionFault}
 use Rattle.mt_settings.specs.declared.fault.OptionFault.TheVariants as fault
 use Rattle.mt_settings.specs.declared.fault.OptionName.{OptionName}
@@ -17,13 +17,6 @@ use Rattle.mt_settings.specs.declared.settings.Mode.TheVariants as mode
 use Rattle.mt_settings.specs.declared.settings.Settings.{Settings}
 
 -- ---- values
-
--- 1 to 64 letters, digits, `_` or `-`
-abbrev pub is_login_byte : ℕ → Bool
-is_login_byte b = is_ascii_alphanumeric b || (b == 95) || (b == 45)
-
-abbrev pub is_login : List ℕ → Bool
-is_login login = nat_le 1 (length login) && nat_le (length login) 64 && list_all is_login_byte login
 
 abbrev pub is_some_text : List ℕ → Bool
 is_some_text text = nat_lt 0 (length text)

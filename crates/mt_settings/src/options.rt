@@ -1,11 +1,12 @@
 //! The options of a command, each read by its name.
 ghost use Rattle.std.specs.Prelude.{◌≡◌, ◌==◌, IfOk};
-ghost use Rattle.std.specs.List.{list_all, list_any};
-ghost use Rattle.mt_settings.specs.Words.{is_helper, is_login, is_login_byte, no_option, number_within, once, option_named, taken, text_if, with_option};
+ghost use Rattle.std.specs.List.{list_any};
+ghost use Rattle.mt_settings.specs.Words.{is_helper, no_option, number_within, once, option_named, taken, text_if, with_option};
 
 use crate::fault::{OptionFault, OptionName};
 use mt_base::{LAST_MOMENT, Text};
 use mt_bytes::read_decimal;
+use mt_path::is_login;
 use std::alloc::{AllocError, Global};
 
 /// The most tasks that run at once.
@@ -59,27 +60,6 @@ pub(crate) fn option_named(serves: bool, name: &str) -> Option<OptionName>
     } else {
         None
     }
-}
-
-// Whether a byte may stand in a login.
-fn may_be_in_login(byte: u8) -> bool
-    ensures { result ≡ is_login_byte byte }
-{
-    byte.is_ascii_alphanumeric() || byte == b'_' || byte == b'-'
-}
-
-// Whether all bytes may stand in a login.
-fn are_login_bytes(login: &[u8]) -> bool
-    ensures { result ≡ list_all is_login_byte login.now }
-{
-    login.iter().all(|byte| may_be_in_login(*byte))
-}
-
-// Whether a word is a login.
-fn is_login(login: &str) -> bool
-    ensures { result ≡ is_login login.now }
-{
-    1 <= login.len() && login.len() <= 64 && are_login_bytes(login.as_bytes())
 }
 
 // Whether a `/` is among the bytes.
@@ -175,7 +155,12 @@ impl Given {
         ensures { IfOk result (λ done. taken done self.new ≡ with_option self.old option value.now) }
     {
         match option {
-            OptionName::Login => take_text(alloc, &mut self.login, is_login(value), value),
+            OptionName::Login => take_text(
+                alloc,
+                &mut self.login,
+                is_login(value.as_bytes()),
+                value,
+            ),
             OptionName::Store => take_text(alloc, &mut self.store, !value.is_empty(), value),
             OptionName::Slots => Ok(take_number(
                 &mut self.slots,

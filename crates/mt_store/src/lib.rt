@@ -2,13 +2,12 @@
 //! conditions of the request say of the object that stands there. No call takes memory or changes anything.
 //!
 //! - `writes`: puts, links and deletes; `reads`: reads.
-//! - `error`: why a request is refused; `object`: the object at a path; `laws`: decisions hang on no body.
+//! - `error`: why a request is refused; `laws`: decisions hang on no body.
 //! - `specs/Decisions`: what is decided, over the rows of the tree and the conditions alone.
 #![tactic(auto)]
 
 mod error;
 pub mod laws;
-mod object;
 mod reads;
 mod writes;
 

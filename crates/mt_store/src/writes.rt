@@ -5,7 +5,6 @@ ghost use Rattle.mt_model.specs.Rows.{at, link_refusal, object_at, put_refusal, 
 ghost use Rattle.mt_store.specs.Decisions.{delete_decision, link_decision, put_decision, verdict, verdict_on};
 
 use crate::error::StoreError;
-use crate::object::{may_be_linked, object_at};
 use mt_cond::{Conditions, Judged, judge};
 use mt_tree::Tree;
 use mt_types::{Entry, Path};
@@ -18,7 +17,7 @@ pub fn may_put<B>(tree: &Tree<B>, path: &Path, conditions: &Conditions) -> Resul
     ensures allowed { OnOk result (put_refusal tree.now path.now ≡ None) }
 {
     tree.may_put(path)?;
-    verdict(judge(conditions, object_at(tree, path), false))
+    verdict(judge(conditions, tree.object_at(path), false))
 }
 
 /// Whether a link to the object at a source may be put at a path. The conditions are judged as for a put of
@@ -35,7 +34,7 @@ pub fn may_link<B>(
     ensures place { OnOk result (put_refusal tree.now path.now ≡ None) }
     ensures source { OnOk result (IsSome (object_at tree.now source.now)) }
 {
-    may_be_linked(tree, source)?;
+    tree.may_be_linked(source)?;
     may_put(tree, path, conditions)
 }
 

@@ -3,7 +3,7 @@ ghost use Rattle.std.specs.Prelude.{◌≡◌, All, IfOk, OnOk, OnErr, None, is_
 ghost use Rattle.std.specs.Map.{lookup};
 ghost use Rattle.mt_path.specs.AccountPath.{IsComponent};
 ghost use Rattle.mt_model.specs.Listing.{listing, result_set_size};
-ghost use Rattle.mt_model.specs.Rows.{at, first_rows, make_directory_refusal, parent_refusal, put_refusal, remove_refusal, row_of, with_row, without_row};
+ghost use Rattle.mt_model.specs.Rows.{at, first_rows, make_directory_refusal, object_at, parent_refusal, put_refusal, remove_refusal, row_of, source_refusal, with_row, without_row};
 ghost use Rattle.mt_types.specs.declared.object.Entry.TheVariants as entry;
 ghost use Rattle.mt_tree.specs.Answer.{answer};
 ghost use Rattle.mt_tree.specs.Keys.{HaveKey};
@@ -52,6 +52,27 @@ impl<B> Tree<B> {
         ensures { option_copied result ≡ at self.now path.now }
     {
         self.entry(path.area(), path.parts())
+    }
+
+    /// The object at a path, if one stands there. Takes no memory, at the cost of a look-up.
+    pub fn object_at(&self, path: &Path) -> Option<&Object<B>>
+        ensures { option_copied result ≡ object_at self.now path.now }
+    {
+        match self.get(path) {
+            Some(Entry::Object(object)) => Some(object),
+            _ => None,
+        }
+    }
+
+    /// Whether a link may be made to what stands at a path. Takes no memory, at the cost of a look-up.
+    pub fn may_be_linked(&self, source: &Path) -> Result<(), Refusal>
+        ensures { result ≡ answer (source_refusal (at self.now source.now)) }
+    {
+        match self.get(source) {
+            None => Err(Refusal::LinkNotFound),
+            Some(Entry::Directory { .. }) => Err(Refusal::LinkNotObject),
+            Some(Entry::Object(_)) => Ok(()),
+        }
     }
 
     /// Whether an object may be put at a path. Takes no memory, at the cost of two look-ups.
