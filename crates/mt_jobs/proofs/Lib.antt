@@ -1,0 +1,16 @@
+pub mod Walks
+pub mod Numbers
+pub mod Tests
+pub mod Changes
+pub mod Ended
+pub mod Added
+pub mod Posted
+pub mod Archived
+pub mod States
+pub mod Plans
+pub mod Paged
+pub mod Asked
+pub mod Grown
+pub mod Allowed
+pub mod Roots
+pub mod Committed
