@@ -619,6 +619,11 @@ class Shown:
         return (self.status(self.done, self.cancelled) if name == "status" else "".join(it + "\n" for it in self.lines(name))).encode()
 
 
+def read_in(text, size):
+    """How many bytes a text has, how many reads take them, and the text."""
+    return f"{len(text)} {-(-len(text) // size)}" + (f" {answered(text)}" if text else "")
+
+
 TEXTS = ("in", "out", "fail", "err", "tasks", "status")
 
 
@@ -661,6 +666,14 @@ class Shows:
         text = self.shown.status(moment, cancelled).encode() if name == "status" else self.shown.text(name)
         row(f"closed {name} {int(cancelled)} {moment}", answered(text))
 
+    def pieces(self, name, *sizes):
+        for size in sizes:
+            row(f"pieces {name} {size}", read_in(self.shown.text(name), size))
+
+    def archive(self, name, cancelled, moment, size):
+        text = self.shown.status(moment, cancelled).encode() if name == "status" else self.shown.text(name)
+        row(f"archive {name} {int(cancelled)} {moment} {size}", read_in(text, size))
+
 
 def texts():
     print("\n# Texts of jobs (mt_jobtext): the number of lines, of bytes, and the text. JSON is Python's. First a job of one map phase, which runs.")
@@ -680,6 +693,9 @@ def texts():
         shows.closed(name, False, 0)
     shows.done(0, False)
     shows.texts()
+    print("# The same read in pieces: how many bytes, how many reads, and the text. A line of an output has %d." % (len(place) + 37))
+    for size in (1, len(place) + 36, len(place) + 37, len(place) + 38, 2 * (len(place) + 37), 65536):
+        shows.pieces("out", size)
     print("\n# Outputs stand in the order of commits, and only those of the last phase; a failed map task of a later phase is named by what it read.")
     shows.job(8192, 1234567890, '{"name":"a \\"b\\"","phases":[{"exec":"x"},{"exec":"y","init":"i","assets":["/l/stor/q"]},{"type":"reduce","exec":"z","count":2}]}')
     for name in ("/l/stor/one", "/l/stor/two words", '/l/stor/t"h\\ree', "/l/public/é/\u2028"):
@@ -697,14 +713,21 @@ def texts():
     shows.bad(2, 1, 14, 3, 255, b"\xc0\x80 tail\xe2\x82")
     shows.good(2, 0, 15, "/l/stor/r")
     shows.texts()
+    print("# And in pieces, as it stands and as it will leave them.")
+    for name in TEXTS:
+        shows.pieces(name, 1, 7, 64, 1000)
+        shows.archive(name, name == "err", 1234567999, 100)
     shows.done(1234567999, False)
     shows.texts("status")
     print("\n# A job that was cancelled, of which nothing ran.")
     shows.job(2 ** 62 - 4096, 253402300799, '{"phases":[{"exec":"x","type":"reduce"}]}')
     shows.input("/l/stor/a")
     shows.closed("status", True, 253402300799)
+    shows.archive("status", True, 253402300799, 3)
     shows.done(253402300799, True)
     shows.texts()
+    shows.pieces("in", 9, 10)
+    shows.pieces("out", 1)
     print("\n# Each cause of a failure.")
     shows.job(0, 951782400, '{"phases":[{"exec":"x"}]}')
     for k in FAILURES:

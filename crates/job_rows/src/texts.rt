@@ -1,10 +1,11 @@
 //! Rows of `mt_jobtext`: a job that is made step by step, and its texts. The login is `l`.
-ghost use Rattle.std.specs.Prelude.{◌≤◌, IfSome, IsTrue};
+ghost use Rattle.std.specs.Prelude.{◌<◌, ◌≤◌, IfSome, IsTrue, length};
 ghost use Rattle.mt_jobtext.specs.Pieces.{IsShowable};
 
 use mt_base::{Bytes, LAST_MOMENT, NUMBERS_END, Sequence, Text};
+use mt_edge::{ReadStep, Source};
 use mt_jobdoc::read;
-use mt_jobtext::{LiveText, closed_text, line_count, live_text, text_len};
+use mt_jobtext::{Lines, LiveText, closed_text, line_count, live_text, text_len};
 use mt_path::Path;
 use mt_rows::{Row, Stop, put_escaped};
 use mt_types::{Body, InputLine, Item, Job, JobDocument, Outcome, TaskFailure, TraceEntry};
@@ -171,6 +172,63 @@ fn put_closed(alloc: Global, job: &Job<Body>, row: &Row, out: &mut String) -> Re
     Ok(true)
 }
 
+// A text that is read in pieces of so many bytes.
+fn put_pieces(alloc: Global, job: &Job<Body>, row: &Row, out: &mut String) -> Result<bool, Stop> {
+    if !is_showable(job) {
+        return Err(Stop::NoSuchRow);
+    }
+    let mut lines = Lines::live(alloc, LOGIN, job, kind(row, 1)?)?;
+    put_lines(alloc, &mut lines, row.number(2)?, out)
+}
+
+// The same of a text as a job will leave it.
+fn put_archive(alloc: Global, job: &Job<Body>, row: &Row, out: &mut String) -> Result<bool, Stop> {
+    let moment = row.number(3)?;
+    if !is_showable(job) || moment > LAST_MOMENT {
+        return Err(Stop::NoSuchRow);
+    }
+    let cancelled = row.number(2)? == 1;
+    let mut lines = Lines::closed(alloc, LOGIN, job, kind(row, 1)?, cancelled, moment)?;
+    put_lines(alloc, &mut lines, row.number(4)?, out)
+}
+
+// How many bytes are left, how many reads take them, and what they read.
+fn put_lines(
+    alloc: Global,
+    lines: &mut Lines<Body>,
+    size: u64,
+    out: &mut String,
+) -> Result<bool, Stop> {
+    let mut piece = Vec::new(alloc);
+    piece.resize(size as usize, 0)?;
+    if piece.is_empty() {
+        return Err(Stop::NoSuchRow);
+    }
+    write!(out, "{}", lines.len())?;
+    put_reads(alloc, lines, &mut piece, out)
+}
+
+fn put_reads(
+    alloc: Global,
+    lines: &mut Lines<Body>,
+    piece: &mut [u8],
+    out: &mut String,
+) -> Result<bool, Stop>
+    requires { 0 < length piece.old }
+{
+    let mut text = Vec::new(alloc);
+    let mut reads: u64 = 0;
+    for read in 0..lines.len() {
+        let ReadStep::Took(count) = lines.read(piece) else {
+            break;
+        };
+        text.extend_from_slice(&piece[..count])?;
+        reads = read + 1;
+    }
+    write!(out, " {reads}")?;
+    put_behind(&text, out)
+}
+
 fn add_input(alloc: Global, job: &mut Job<Body>, row: &Row) -> Result<bool, Stop> {
     job.inputs.push(item(alloc, row, 1)?)?;
     Ok(true)
@@ -208,6 +266,8 @@ fn on_job(alloc: Global, job: &mut Job<Body>, row: &Row, out: &mut String) -> Re
         "done" => set_done(job, row),
         "text" => put_text(alloc, job, row, out),
         "closed" => put_closed(alloc, job, row, out),
+        "pieces" => put_pieces(alloc, job, row, out),
+        "archive" => put_archive(alloc, job, row, out),
         _ => Ok(false),
     }
 }

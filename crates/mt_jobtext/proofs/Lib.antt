@@ -7,3 +7,4 @@ pub mod Bodies
 pub mod Numbered
 pub mod Outputs
 pub mod Chunks
+pub mod Filled

@@ -4,4 +4,6 @@ pub mod Spelled
 pub mod Members
 pub mod Ended
 pub mod Pieces
+pub mod Places
+pub mod Lines
 pub mod Laws

@@ -92,8 +92,8 @@ fn written<B>(
     joined(alloc, &shown, count, len)
 }
 
-// What a text is made of.
-fn shown<'a, B>(
+/// What a text is made of.
+pub(crate) fn shown<'a, B>(
     login: &'a str,
     job: &'a Job<B>,
     ending: Ending,
@@ -130,8 +130,8 @@ fn shown_text<B>(job: &Job<B>, text: LiveText) -> LiveText
     }
 }
 
-// How many pieces a text has.
-fn piece_count<B>(shown: &Shown<B>) -> Result<usize, AllocError>
+/// How many pieces a text has. The error is a number that is not below 2 ^ 64, as much as no memory holds.
+pub(crate) fn piece_count<B>(shown: &Shown<B>) -> Result<usize, AllocError>
     ensures { IfOk result (λ n. n ≡ length (pieces_of shown.now)) }
 {
     let tasks = tasks(shown);
@@ -139,8 +139,12 @@ fn piece_count<B>(shown: &Shown<B>) -> Result<usize, AllocError>
     Ok(count as usize)
 }
 
-// How many bytes a text has.
-fn joined_len<B>(alloc: Global, shown: &Shown<B>, count: usize) -> Result<u64, AllocError>
+/// How many bytes a text has. It takes no memory: the error is a number that is not below 2 ^ 64 - 1.
+pub(crate) fn joined_len<B>(
+    alloc: Global,
+    shown: &Shown<B>,
+    count: usize,
+) -> Result<u64, AllocError>
     requires shown { IsShown shown.now }
     requires count { count ≡ length (pieces_of shown.now) }
     ensures { IfOk result (λ n. n ≡ length (joined_pieces shown.now)) }
