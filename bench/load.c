@@ -1,4 +1,4 @@
-// The load of the benchmark, and the device calls of its puts made by hand. usage: load puts|gets|device COUNT SIZE [FILE]
+// The load of the benchmark, and the device calls of its puts made by hand. usage: load puts|gets|directories|device COUNT SIZE [FILE]
 #define _GNU_SOURCE
 #include <fcntl.h>
 #include <stdio.h>
@@ -25,6 +25,12 @@ static void puts_of(const char *body, long count, long size) {
 static void gets_of(const char *body, long count, long size) {
     put(body, 0, size);
     for (long i = 0; i < count; i++) fputs("GET /l/stor/object0000000 HTTP/1.1\r\n\r\n", stdout);
+}
+
+// One directory for each number: a command without a body.
+static void directories_of(long count) {
+    for (long i = 0; i < count; i++)
+        printf("PUT /l/stor/folder%07ld HTTP/1.1\r\nContent-Type: application/json; type=directory\r\nContent-Length: 0\r\n\r\n", i);
 }
 
 static void write_at(int file, const void *bytes, size_t count, off_t at) {
@@ -64,13 +70,14 @@ static void device(const char *body, long count, long size, const char *name) {
 }
 
 int main(int argc, char **argv) {
-    if (argc < 4) return fputs("usage: load puts|gets|device COUNT SIZE [FILE]\n", stderr), 2;
+    if (argc < 4) return fputs("usage: load puts|gets|directories|device COUNT SIZE [FILE]\n", stderr), 2;
     long count = atol(argv[2]), size = atol(argv[3]);
     char *body = malloc(size + 1);
     if (!body) fail("malloc");
     memset(body, 'x', size);
     if (!strcmp(argv[1], "puts")) puts_of(body, count, size);
     else if (!strcmp(argv[1], "gets")) gets_of(body, count, size);
+    else if (!strcmp(argv[1], "directories")) directories_of(count);
     else if (argc > 4) device(body, count, size, argv[4]);
     return fflush(stdout) ? 1 : 0;
 }
