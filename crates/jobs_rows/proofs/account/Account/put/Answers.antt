@@ -1,0 +1,18 @@
+use Rattle.std.proofs.Common.{◌≡◌, ◌+◌, ◌*◌, ◌<◌, None, subst, sym, ap, ◌∙◌, arith}
+use Rattle.mt_types.specs.declared.body.Body.{Body}
+use Rattle.mt_types.specs.declared.limits.TheConstants.{MOST_COMMANDS}
+use Rattle.mt_types.specs.declared.object.Entry.TheVariants as entry
+use Rattle.mt_model.specs.CommandStep.{put_object}
+use Rattle.mt_model.specs.Names.{number_at}
+use Rattle.mt_model.specs.Rows.{with_row}
+use Rattle.mt_model.specs.State.{State}
+use Rattle.jobs_rows.proofs.Stays.{not_refused, stays_put}
+use Rattle.jobs_rows.proofs.account.Account.put.Goals as goal
+
+pub invariant_of-account : goal.invariant_of-account
+invariant_of-account c =
+    let was = c.self.inside in
+    let room = subst (λ (s : State Body). s.count < MOST_COMMANDS) (sym c.self.view_is) c.requires in
+    let same : was.position * 4096 ≡ number_at was.position 0 = omega arith in
+    let changed = c.in_ok-put_object-in-Ok.ensures.ok ∙ ap (λ fields. with_row was.tree c.args.path (entry.Object (put_object (was.position * 4096) c.body.result c.in_ok-from_str-in-Ok.field-0 None fields (1000 + was.position)))) c.new.ensures in
+    stays_put was.position was.tree was.jobs c.self.invariant room c.put_object.new.self c.args.path c.in_ok-from_str-in-Ok.field-0 c.body.result (was.position * 4096) (1000 + was.position) c.parts-parts.ensures.path same (not_refused _ (sym c.in-Ok.ensures)) changed

@@ -1,0 +1,105 @@
+//! The order of a ready task, by its parts.
+ghost use Rattle.std.specs.Prelude.{◌≡◌, true, IfOk, IfSome};
+ghost use Rattle.std.specs.List.{sum_by};
+ghost use Rattle.mt_model.specs.State.{job_at};
+ghost use Rattle.mt_model.specs.Tasks.{is_ready};
+ghost use Rattle.jobs_rows.specs.Reads.{reads_of};
+
+use crate::account::Account;
+use crate::words::task_at;
+use mt_base::{NUMBERS_END, Text};
+use mt_jobs::Jobs;
+use mt_phase::order_of;
+use mt_rows::{Row, Stop, put_escaped};
+use mt_spawn::Order;
+use mt_types::{Body, Task};
+use std::alloc::{AllocError, Global};
+
+/// So many items are added up at most.
+const MOST_ITEMS: usize = 1_000;
+
+// How many bytes a ready task reads.
+fn input_len(jobs: &Jobs<Body>, task: &Task) -> Result<u64, Stop>
+    requires { IfSome (job_at jobs.now task.now.job) (λ j. is_ready j task.now.phase task.now.place ≡ true) }
+    ensures { IfOk result (λ n. n ≡ sum_by (λ i. i.body.len) (reads_of jobs.now task.now)) }
+{
+    let mut total: u64 = 0;
+    for k in 0..MOST_ITEMS {
+        let Some(item) = jobs.read(task, k) else {
+            return Ok(total);
+        };
+        if item.body.len > u64::MAX - total {
+            return Err(Stop::NoSuchRow);
+        }
+        total += item.body.len;
+    }
+    Err(Stop::NoSuchRow)
+}
+
+fn put(out: &mut String, name: &str, bytes: &[u8]) -> Result<(), AllocError> {
+    out.push_str(name)?;
+    put_escaped(out, bytes)
+}
+
+// A text, or a dash where there is none.
+fn put_some(out: &mut String, name: &str, text: Option<&Text>) -> Result<(), AllocError> {
+    match text {
+        Some(text) => put(out, name, text.as_bytes()),
+        None => put(out, name, b"-"),
+    }
+}
+
+fn put_assets(order: &Order, out: &mut String) -> Result<(), AllocError> {
+    for asset in order.assets.as_slice() {
+        put(out, ", asset ", asset.name.as_bytes())?;
+        write!(out, " {}", asset.len)?;
+    }
+    Ok(())
+}
+
+fn put_reducer(order: &Order, out: &mut String) -> Result<(), AllocError> {
+    if let Some(reducer) = order.reducer {
+        write!(out, ", reducer {reducer}")?;
+    }
+    write!(out, ", reads {}", order.input)
+}
+
+fn put_parts(order: &Order, out: &mut String) -> Result<(), AllocError> {
+    write!(out, "{} {} ", order.job, order.phase)?;
+    put(out, "exec ", order.exec.as_bytes())?;
+    put_some(out, ", init ", order.init.as_ref())?;
+    put(out, ", base ", order.base.as_bytes())?;
+    put_some(out, ", object ", order.object.as_ref())?;
+    put_reducer(order, out)?;
+    put_assets(order, out)
+}
+
+// The order of a task that is ready.
+fn put_ready(alloc: Global, jobs: &Jobs<Body>, task: Task, out: &mut String) -> Result<(), Stop>
+    requires { IfSome (job_at jobs.now task.job) (λ j. is_ready j task.phase task.place ≡ true) }
+{
+    let input = input_len(jobs, &task)?;
+    match jobs.get(task.job) {
+        Some(job) if job.number < NUMBERS_END => {
+            let order = order_of(alloc, "l", job, task, jobs.item(&task), input)?;
+            Ok(put_parts(&order, out)?)
+        }
+        _ => Err(Stop::NoSuchRow),
+    }
+}
+
+/// `order JOB PHASE PLACE`
+pub fn put_order(
+    alloc: Global,
+    account: &Account,
+    row: &Row,
+    out: &mut String,
+) -> Result<(), Stop> {
+    let task = task_at(row, 1)?;
+    let jobs = account.jobs();
+    if jobs.is_ready(&task) {
+        put_ready(alloc, jobs, task, out)
+    } else {
+        Ok(out.push_str("not ready")?)
+    }
+}
