@@ -1,0 +1,21 @@
+//! The ends of jobs in the system: commands under a shell, each in a folder of its own, and the files of helpers in a folder. None
+//! tells what it holds.
+//!
+//! - `sh_spawner`: the commands. `running`, `held`: those that live, and the one that has ended.
+//! - `task_folder`, `script`, `outcome`: what a command finds, how it is started, and what it left. `group`: how it is ended.
+//! - `folder_spool`: the files of helpers. `standard`: the numbers of standard input, output and error.
+#![tactic(auto)]
+
+mod folder_spool;
+mod group;
+mod held;
+mod outcome;
+mod running;
+mod script;
+mod sh_spawner;
+mod standard;
+mod task_folder;
+
+pub use folder_spool::FolderSpool;
+pub use sh_spawner::ShSpawner;
+pub use standard::Standard;

@@ -1,0 +1,575 @@
+//! A spawner of commands under a shell.
+ghost use Rattle.std.specs.Prelude.{◌≡◌, ◌<◌, ℕ, List, ⊤};
+
+use crate::group::{end, end_rest};
+use crate::held::Held;
+use crate::outcome::left_in;
+use crate::running::{Children, Found};
+use crate::script::command_of;
+use crate::task_folder::{Unstarted, fill, make_folder, path_of};
+use mt_base::{Duplicate, NUMBERS_END};
+use mt_edge::{ReadStep, Source};
+use mt_spawn::{Begun, Left, Order, Part, Spawner, Ticket, Waited};
+use std::alloc::{AllocError, Global};
+use std::fs::{self, File};
+use std::io::ErrorKind;
+use std::marker::Model;
+use std::process::{Child, Command, ExitStatus, Processes, Stdio, SystemProcess};
+use std::rt::Files;
+use std::time::{Clock, Duration};
+use std::{io, thread};
+
+/// The first pause between two looks at the children, in microseconds; each further one is twice as long.
+const FIRST_PAUSE: u64 = 50;
+
+/// The longest pause between two looks, in microseconds.
+const LAST_PAUSE: u64 = 2_000;
+
+/// Commands under `sh`, each in a folder of its own below the work folder, which is made where it is missing. A child is the first
+/// of a session and of a group, which is ended as a whole. No bytes of a child are ever whole in memory, and one file of its is open
+/// at a time. It tells nothing of what a command gives.
+#[derive(Drop)]
+pub struct ShSpawner<R> {
+    rt: R,
+    alloc: Global,
+    // Begins with a slash or with `./`, so that a shell takes it for a folder and for nothing else.
+    work: String,
+    helper: String,
+    login: String,
+    patience: Option<Duration>,
+    is_ready: bool,
+    children: Children,
+    held: Option<Held>,
+    faults: u64,
+    waits: u64,
+    company: u64,
+    failure: Option<io::Error>,
+}
+
+impl<R> Model for ShSpawner<R> {
+    ghost use Rattle.std.specs.Prelude.{◌<◌, IsSome};
+    ghost use Rattle.mt_children.specs.State.{ShState};
+
+    ghost Value = { ShState };
+
+    ghost view = { λ s. record { live = s.children.items.items; faults = s.faults; waits = s.waits; company = s.company; held = s.held } };
+
+    ghost invariant = { λ s. IsSome s.failure → 0 < s.faults };
+}
+
+impl<R> ShSpawner<R> {
+    ghost use Rattle.std.specs.Prelude.{◌≡◌, ◌<◌, IfOk, IsSome, is_some, length};
+    ghost use Rattle.mt_adapters.specs.Device.{one_more};
+    ghost use Rattle.mt_spawn.specs.Children.{lives};
+    ghost use Rattle.mt_children.specs.State.{first_state};
+
+    /// Commands whose folders stand below `work`, which find the helpers at `helper`, a program's name or its path, and whose outputs
+    /// belong to `login`. It makes no call of the system.
+    pub fn new(
+        alloc: Global,
+        rt: R,
+        work: &str,
+        helper: &str,
+        login: &str,
+    ) -> Result<ShSpawner<R>, AllocError>
+    where
+        R: Drop,
+        ensures { IfOk result (λ s. s ≡ first_state) }
+    {
+        let before = if work.starts_with('/') { "" } else { "./" };
+        Ok(ShSpawner {
+            rt,
+            alloc,
+            work: format!(in alloc; "{before}{work}")?,
+            helper: String::from_str(alloc, helper)?,
+            login: String::from_str(alloc, login)?,
+            patience: None,
+            is_ready: false,
+            children: Children::new(alloc),
+            held: None,
+            faults: 0,
+            waits: 0,
+            company: 0,
+            failure: None,
+        })
+    }
+
+    /// The same spawner, of which a wait in which no child ends takes about so long. Unless it is asked for, a wait takes until a child ends.
+    pub fn within(mut self, patience: Duration) -> ShSpawner<R>
+        ensures { result ≡ self }
+    {
+        self.patience = Some(patience);
+        self
+    }
+
+    /// How many children live.
+    pub fn live(&self) -> usize
+        ensures { result ≡ length self.now.live }
+    {
+        self.children.items.len()
+    }
+
+    /// Whether what an ended child left is held.
+    pub fn is_holding(&self) -> bool
+        ensures { result ≡ is_some self.now.held }
+    {
+        self.held.is_some()
+    }
+
+    /// Whether a child of this ticket lives.
+    pub fn lives(&self, ticket: Ticket) -> bool
+        ensures { result ≡ lives ticket.number self.now.live }
+    {
+        self.children.has(ticket.number)
+    }
+
+    /// How often a call has failed.
+    pub fn faults(&self) -> u64
+        ensures { result ≡ self.now.faults }
+    {
+        self.faults
+    }
+
+    /// How many waits were in vain.
+    pub fn waits(&self) -> u64
+        ensures { result ≡ self.now.waits }
+    {
+        self.waits
+    }
+
+    /// How many children lived at the ends of children, summed up.
+    pub fn company(&self) -> u64
+        ensures { result ≡ self.now.company }
+    {
+        self.company
+    }
+
+    /// The first call that failed, and why.
+    pub fn failure(&self) -> Option<&io::Error>
+        ensures { IsSome result → 0 < self.now.faults }
+    {
+        self.failure.as_ref()
+    }
+
+    // Counts a call that failed, and keeps the first.
+    fn fail(&mut self, error: io::Error)
+        ensures { self.new ≡ record self.old { faults = one_more self.old.faults } }
+    {
+        self.faults = self.faults.saturating_add(1);
+        if self.failure.is_none() {
+            self.failure = Some(error);
+        }
+    }
+}
+
+// Whether it is want of memory.
+fn is_memory(error: &io::Error) -> bool {
+    error.kind() == ErrorKind::OutOfMemory
+}
+
+// Gives this user every right to what is in a folder.
+fn open_up<R: Processes>(rt: &R, alloc: Global, folder: &str) -> io::Result<()> {
+    let mut command = Command::new(alloc, "chmod")?;
+    command.arg("-R")?.arg("u+rwX")?.arg(folder)?;
+    command
+        .stdin(Stdio::null())
+        .stdout(Stdio::null())
+        .stderr(Stdio::null());
+    command.status(rt)?;
+    Ok(())
+}
+
+// Whether a right is wanting.
+fn is_closed<T>(done: &io::Result<T>) -> bool {
+    match done {
+        Ok(_) => false,
+        Err(error) => error.kind() == ErrorKind::PermissionDenied,
+    }
+}
+
+// Passes over that something was not there.
+fn or_missing(done: io::Result<()>) -> io::Result<()> {
+    match done {
+        Err(error) if error.kind() == ErrorKind::NotFound => Ok(()),
+        done => done,
+    }
+}
+
+// What is told of the ended task in a folder. What its command made unreadable is made readable first.
+fn left_of<R: Files<File = File> + Processes>(
+    rt: &R,
+    alloc: Global,
+    folder: &str,
+    status: ExitStatus,
+) -> io::Result<Left> {
+    let left = left_in(rt, alloc, folder, status);
+    if !is_closed(&left) {
+        return left;
+    }
+    open_up(rt, alloc, folder)?;
+    left_in(rt, alloc, folder, status)
+}
+
+// Makes the folder of tasks where it is missing, and sees that there is a shell.
+fn prepare<R: Files + Processes>(rt: &R, alloc: Global, work: &str) -> io::Result<()> {
+    fs::create_dir_all(rt, work)?;
+    let mut command = Command::new(alloc, "sh")?;
+    command.arg("-c")?.arg(":")?;
+    command
+        .stdin(Stdio::null())
+        .stdout(Stdio::null())
+        .stderr(Stdio::null());
+    match command.status(rt)?.success() {
+        true => Ok(()),
+        false => Err(io::Error::from(ErrorKind::NotFound)),
+    }
+}
+
+impl<R: Files<File = File> + Processes<Started = SystemProcess> + Clock> ShSpawner<R> {
+    ghost use Rattle.std.specs.Prelude.{◌≡◌, ◌<◌, length, false, IfOk, IfErr, IfSome};
+    ghost use Rattle.std.specs.Io.KnownBytes.{IsAtEnd};
+    ghost use Rattle.mt_base.specs.Counts.{NeverFell, Rose};
+    ghost use Rattle.mt_spawn.specs.Children.{lives};
+    ghost use Rattle.mt_children.specs.State.{IsStarted};
+
+    // Removes the folder of a number, with all that is in it, where it is there. What its command made unreadable is made readable
+    // first.
+    fn discard(&self, number: u64) -> io::Result<()> {
+        let path = path_of(self.alloc, &self.work, number)?;
+        let done = self.rt.remove_dir_all(self.alloc, path.as_str());
+        if !is_closed(&done) {
+            return or_missing(done);
+        }
+        open_up(&self.rt, self.alloc, path.as_str())?;
+        or_missing(self.rt.remove_dir_all(self.alloc, path.as_str()))
+    }
+
+    // Fills a folder, and starts the command of an order there.
+    fn launch<S: Source>(
+        &self,
+        alloc: Global,
+        number: u64,
+        order: &Order,
+        bytes: &mut S,
+    ) -> Result<Child<SystemProcess>, Unstarted>
+        ensures ended { IfOk result (λ _. IsAtEnd (S.left bytes.new)) }
+        ensures source { IfErr result (λ e. e ≡ Unstarted.Source → Rose (S.read_faults bytes.old) (S.read_faults bytes.new)) }
+        ensures reads { NeverFell (S.read_faults bytes.old) (S.read_faults bytes.new) }
+        ensures stays { S.source_stays bytes.old bytes.new }
+    {
+        let folder = match path_of(alloc, &self.work, number) {
+            Ok(folder) => folder,
+            Err(error) => return Err(Unstarted::System(io::Error::from(error))),
+        };
+        fill(&self.rt, alloc, folder.as_str(), order, bytes)?;
+        match self.spawn(alloc, folder.as_str(), order) {
+            Ok(process) => Ok(process),
+            Err(error) => Err(Unstarted::System(error)),
+        }
+    }
+
+    // Starts the command of an order in its folder.
+    fn spawn(
+        &self,
+        alloc: Global,
+        folder: &str,
+        order: &Order,
+    ) -> io::Result<Child<SystemProcess>> {
+        if order.job >= NUMBERS_END {
+            return Err(io::Error::from(ErrorKind::InvalidInput));
+        }
+        command_of(alloc, folder, &self.helper, &self.login, order)?.spawn(&self.rt)
+    }
+
+    // Makes the folder of the next task, under whose number no child lives.
+    fn next_folder(&mut self, alloc: Global) -> io::Result<u64>
+        ensures same { self.new ≡ self.old }
+        ensures fresh { IfOk result (λ n. lives n self.new.live ≡ false) }
+        ensures small { IfOk result (λ n. n < 18446744073709551615) }
+    {
+        if !self.is_ready {
+            prepare(&self.rt, alloc, &self.work)?;
+            self.is_ready = true;
+        }
+        let made = make_folder(&self.rt, alloc, &self.work, self.children.next);
+        match made {
+            Ok(number) => {
+                self.children.pass(number);
+                Ok(number)
+            }
+            Err(error) => {
+                self.is_ready = false;
+                Err(error)
+            }
+        }
+    }
+
+    // Starts an order, and gives the ticket of its child.
+    fn begin<S: Source>(
+        &mut self,
+        alloc: Global,
+        order: &Order,
+        bytes: &mut S,
+    ) -> Result<u64, Unstarted>
+        ensures ok { IfOk result (λ t. IsStarted t self.old self.new × IsAtEnd (S.left bytes.new)) }
+        ensures err { IfErr result (λ _. self.new ≡ self.old) }
+        ensures source { IfErr result (λ e. e ≡ Unstarted.Source → Rose (S.read_faults bytes.old) (S.read_faults bytes.new)) }
+        ensures reads { NeverFell (S.read_faults bytes.old) (S.read_faults bytes.new) }
+        ensures stays { S.source_stays bytes.old bytes.new }
+    {
+        let number = match self.next_folder(alloc) {
+            Ok(number) => number,
+            Err(error) => return Err(Unstarted::System(error)),
+        };
+        match self.launch(alloc, number, order, bytes) {
+            Ok(process) => match self.children.add(number, process) {
+                Ok(()) => Ok(number),
+                Err(mut process) => {
+                    end(&self.rt, self.alloc, &mut process);
+                    let _ = self.discard(number);
+                    Err(Unstarted::System(io::Error::from(ErrorKind::OutOfMemory)))
+                }
+            },
+            Err(error) => {
+                let _ = self.discard(number);
+                Err(error)
+            }
+        }
+    }
+
+    // Waits until a child has ended, or for as long as was asked for.
+    fn await_one(&mut self) -> Option<Found>
+        ensures same { self.new ≡ self.old }
+        ensures there { IfSome result (λ f. f.place < length self.old.live) }
+    {
+        let mut waited = Duration::ZERO;
+        let mut pause = Duration::from_micros(FIRST_PAUSE);
+        'looks: for _ in 0..u64::MAX {
+            if let Some(found) = self.children.first_ended() {
+                return Some(found);
+            }
+            if self.patience.is_some_and(|most| waited >= most) {
+                return None;
+            }
+            thread::sleep(&self.rt, pause);
+            waited = waited.saturating_add(pause);
+            pause = pause
+                .saturating_add(pause)
+                .min(Duration::from_micros(LAST_PAUSE));
+        }
+        None
+    }
+
+    // What an ended child left. What is left of its group is ended first, so that nothing writes into its folder any more.
+    fn look(&mut self, alloc: Global, found: Found) -> io::Result<Left>
+        requires { found.place < length self.old.live }
+        ensures { self.new ≡ self.old }
+    {
+        let child = &mut self.children.items[found.place];
+        let number = child.ticket;
+        match found.status {
+            Ok(status) => {
+                end_rest(&self.rt, alloc, child.process.id());
+                let folder = path_of(alloc, &self.work, number)?;
+                left_of(&self.rt, alloc, folder.as_str(), status)
+            }
+            Err(error) => {
+                end(&self.rt, alloc, &mut child.process);
+                Err(error)
+            }
+        }
+    }
+}
+
+impl<R: Files<File = File> + Processes<Started = SystemProcess> + Clock> ShSpawner<R> {
+    ghost use Rattle.std.specs.Prelude.{◌≡◌, ◌<◌, IfOk, None, length, ⊤};
+    ghost use Rattle.std.specs.Io.{ReadsAtMost};
+    ghost use Rattle.mt_spawn.specs.Children.{Waits};
+    ghost use Rattle.mt_children.specs.State.{ended, faults_after_wait, lost, seen_of};
+
+    // A child is gone, and what it left is held.
+    fn hold(&mut self, number: u64, left: Left)
+        ensures { self.new ≡ ended self.old number left }
+    {
+        let live = self.children.items.len() as u64;
+        self.company = self.company.saturating_add(live);
+        self.children.remove(number);
+        self.held = Some(Held::new(number, left));
+    }
+
+    // A child is gone, and its folder is removed.
+    fn lose(&mut self, number: u64)
+        ensures { self.new ≡ lost self.old number }
+    {
+        self.children.remove(number);
+        let _ = self.discard(number);
+    }
+
+    // Takes the outcome of a child that was found.
+    fn take(&mut self, alloc: Global, found: Found) -> Waited
+        requires there { found.place < length self.old.live }
+        requires free { self.old.held ≡ None }
+        ensures wait { Waits (λ fate raw. ⊤) (seen_of self.old) result self.new.held None (seen_of self.new) }
+        ensures counted { self.new.faults ≡ faults_after_wait self.old.faults result }
+    {
+        let number = self.children.items[found.place].ticket;
+        let ticket = Ticket { number };
+        match self.look_twice(alloc, found) {
+            Ok((left, kept)) => {
+                self.hold(number, kept);
+                Waited::Ended { ticket, left }
+            }
+            Err(error) => {
+                self.lose(number);
+                if is_memory(&error) {
+                    return Waited::Memory;
+                }
+                self.fail(error);
+                Waited::Failed(ticket)
+            }
+        }
+    }
+
+    // What an ended child left, and a copy of it.
+    fn look_twice(&mut self, alloc: Global, found: Found) -> io::Result<(Left, Left)>
+        requires { found.place < length self.old.live }
+        ensures same { self.new ≡ self.old }
+        ensures copy { IfOk result (λ both. both.1 ≡ both.0) }
+    {
+        let left = self.look(alloc, found)?;
+        let copy = left.copy(alloc)?;
+        Ok((left, copy))
+    }
+
+    // Reads from a part of what is held.
+    fn read_held(&mut self, part: Part, at: u64, into: &mut [u8]) -> io::Result<usize>
+        ensures same { self.new ≡ self.old }
+        ensures bound { ReadsAtMost result into.new }
+    {
+        let Some(held) = &mut self.held else {
+            return Err(io::Error::from(ErrorKind::NotFound));
+        };
+        let folder = path_of(self.alloc, &self.work, held.number)?;
+        let done = held.read(&self.rt, self.alloc, folder.as_str(), part, at, into);
+        if !is_closed(&done) {
+            return done;
+        }
+        open_up(&self.rt, self.alloc, folder.as_str())?;
+        held.read(&self.rt, self.alloc, folder.as_str(), part, at, into)
+    }
+}
+
+impl<R: Files<File = File> + Processes<Started = SystemProcess> + Clock> Spawner for ShSpawner<R> {
+    ghost use Rattle.std.specs.Prelude.{◌≡◌, ◌<◌, None, length, true, ⊤};
+    ghost use Rattle.std.proofs.lemmas.Option.{none-some};
+    ghost use Rattle.mt_adapters.specs.Device.{faults_after_read};
+    ghost use Rattle.mt_base.specs.Counts.{NeverFell, Rose};
+    ghost use Rattle.mt_spawn.specs.Children.{Begins, Loses, SameLive, Waits, lives};
+    ghost use Rattle.mt_spawn.specs.Parts.{ReadsPart, size_in};
+    ghost use Rattle.mt_children.specs.State.{after_start, faults_after_wait, lost, seen_of};
+
+    ghost Rule = { Unit {0} };
+
+    ghost Fate = { Unit {0} };
+
+    ghost rule = { λ s. tt };
+
+    ghost seen = { λ s. seen_of s };
+
+    ghost held = { λ s. s.held };
+
+    ghost told = { λ s. None };
+
+    ghost gives = { λ rule run input raw. ⊤ };
+
+    ghost may = { λ rule fate raw. ⊤ };
+
+    fn start<S: Source>(&mut self, alloc: Global, order: &Order, bytes: &mut S) -> Begun
+        requires free { self.old.held ≡ None }
+        ensures start { Begins (λ fate raw. ⊤) (λ all raw. ⊤) (S.left bytes.old) (S.left bytes.new) (seen_of self.old) result (seen_of self.new) }
+        ensures after { self.new ≡ after_start self.old result }
+        ensures input { result ≡ Begun.InputFailed → Rose (S.read_faults bytes.old) (S.read_faults bytes.new) }
+        ensures reads { NeverFell (S.read_faults bytes.old) (S.read_faults bytes.new) }
+        ensures stays { S.source_stays bytes.old bytes.new }
+    {
+        match self.begin(alloc, order, bytes) {
+            Ok(number) => Begun::Began(Ticket { number }),
+            Err(Unstarted::Source) => Begun::InputFailed,
+            Err(Unstarted::System(error)) => {
+                if is_memory(&error) {
+                    return Begun::Memory;
+                }
+                self.fail(error);
+                Begun::Failed
+            }
+        }
+    }
+
+    fn wait(&mut self, alloc: Global) -> Waited
+        requires some { 0 < length self.old.live }
+        requires free { self.old.held ≡ None }
+        ensures wait { Waits (λ fate raw. ⊤) (seen_of self.old) result self.new.held None (seen_of self.new) }
+        ensures counted { self.new.faults ≡ faults_after_wait self.old.faults result }
+    {
+        match self.await_one() {
+            Some(found) => self.take(alloc, found),
+            None => {
+                self.children.wait_all();
+                self.waits = self.waits.saturating_add(1);
+                Waited::NotYet
+            }
+        }
+    }
+
+    fn read(&mut self, part: Part, at: u64, into: &mut [u8]) -> ReadStep
+        requires piece { 0 < length into.old }
+        ensures read { ReadsPart None (size_in self.old.held part) at self.old.faults into.new result self.new.faults }
+        ensures after { self.new ≡ record self.old { faults = faults_after_read self.old.faults result } }
+    {
+        let size = match &self.held {
+            Some(held) => held.size_of(part),
+            None => 0,
+        };
+        if size <= at {
+            return ReadStep::End;
+        }
+        let most = (size - at).min(into.len() as u64) as usize;
+        match self.read_held(part, at, &mut into[..most]) {
+            Ok(0) => {
+                self.fail(io::Error::from(ErrorKind::UnexpectedEof));
+                ReadStep::Failed
+            }
+            Ok(count) => ReadStep::Took(count),
+            Err(error) => {
+                self.fail(error);
+                ReadStep::Failed
+            }
+        }
+    }
+
+    fn release(&mut self)
+        ensures same { SameLive (seen_of self.old) (seen_of self.new) }
+        ensures faults { NeverFell self.old.faults self.new.faults }
+        ensures free { self.new.held ≡ None }
+    {
+        let Some(held) = self.held.take() else {
+            return;
+        };
+        if let Err(error) = self.discard(held.number) {
+            self.fail(error);
+        }
+    }
+
+    fn kill(&mut self, ticket: Ticket)
+        requires { lives ticket.number self.old.live ≡ true }
+        ensures { self.new ≡ lost self.old ticket.number }
+    {
+        if let Some(place) = self.children.place_of(ticket.number) {
+            let child = &mut self.children.items[place];
+            end(&self.rt, self.alloc, &mut child.process);
+        }
+        self.lose(ticket.number);
+    }
+
+    ghost told_is_held = { λ s raw is. absurd (none-some raw is) };
+}
