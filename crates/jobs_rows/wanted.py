@@ -319,7 +319,7 @@ def asked(words):
     if call == "looked":
         return str(sum(it["body"] for it in account.feed(found[0], 0)[: numbers[1]]))
     if call == "asked":
-        return str(sum(it[0] for it in account.ready()[64:65]) * numbers[0])
+        return str(sum(it[0] for it in account.ready()[numbers[1] :][:1]) * numbers[0])
     if call == "at":
         return " ".join(map(str, account.rows.get(path(words[1]), ("none",))))
     if call == "order":
@@ -447,8 +447,8 @@ def main():
     rows("end 0", "ready", "finish 0", "ready", "finish 8192")
 
     comment("Much at once, as bench/jobs asks for it.")
-    rows("new", "put /l/stor/a 3", f"make {job('map')}", "fed 4096 /l/stor/a 1000", "looked 4096 1000", "asked 2", "committed 4096 990", "ready", "looked 4096 2000")
-    rows("new", "put /l/stor/a 3", "made 100 /l/stor/a", "ready", "asked 1000", "committed 4096 1", "asked 1", "page running 700000 9")
+    rows("new", "put /l/stor/a 3", f"make {job('map')}", "fed 4096 /l/stor/a 1000", "looked 4096 1000", "asked 2 64", "committed 4096 990", "ready", "looked 4096 2000")
+    rows("new", "put /l/stor/a 3", "made 100 /l/stor/a", "ready", "asked 1000 64", "asked 3 1", "committed 4096 1", "asked 1 64", "asked 1 0", "page running 700000 9")
 
 
 main()

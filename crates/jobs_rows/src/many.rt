@@ -12,8 +12,8 @@ use std::alloc::{AllocError, Global};
 /// So often is done what a row asks for at most.
 const MOST: u64 = 10_000_000;
 
-/// So many tasks are passed over.
-const SKIPPED: usize = 64;
+/// So many tasks are passed over at most.
+const MOST_SKIPPED: u64 = 64;
 
 // The account after a change that was taken.
 fn taken(changed: Changed) -> Result<Account, Stop> {
@@ -112,9 +112,9 @@ pub fn look(account: &Account, row: &Row, out: &mut String) -> Result<(), Stop> 
 }
 
 // The first ready tasks.
-fn first_ready(alloc: Global, account: &Account) -> Result<Vec<Task>, AllocError> {
+fn first_ready(alloc: Global, account: &Account, count: u64) -> Result<Vec<Task>, AllocError> {
     let mut tasks = Vec::new(alloc);
-    for _ in 0..SKIPPED {
+    for _ in 0..count.min(MOST_SKIPPED) {
         if let Some(task) = account.jobs().next_ready(&tasks) {
             tasks.push(task)?;
         }
@@ -122,9 +122,9 @@ fn first_ready(alloc: Global, account: &Account) -> Result<Vec<Task>, AllocError
     Ok(tasks)
 }
 
-/// `asked COUNT`: so often the first ready task behind the first 64. The numbers of their jobs, added up.
+/// `asked COUNT SKIPPED`: so often the first ready task behind the first ones. The numbers of their jobs, added up.
 pub fn ask(alloc: Global, account: &Account, row: &Row, out: &mut String) -> Result<(), Stop> {
-    let skip = first_ready(alloc, account)?;
+    let skip = first_ready(alloc, account, row.number(2)?)?;
     let mut sum: u64 = 0;
     for _ in 0..row.number(1)?.min(MOST) {
         if let Some(task) = account.jobs().next_ready(&skip) {
