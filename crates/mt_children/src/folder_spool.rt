@@ -29,17 +29,17 @@ pub struct FolderSpool<R> {
 }
 
 impl<R> Model for FolderSpool<R> {
-    ghost use Rattle.std.specs.Prelude.{◌<◌, ℕ, IsSome};
+    ghost use Rattle.std.specs.Prelude.{◌≡◌, nat_lt, ℕ, is_some};
 
     ghost Value = { ℕ };
 
     ghost view = { λ s. s.faults };
 
-    ghost invariant = { λ s. IsSome s.failure → 0 < s.faults };
+    ghost invariant = { λ s. is_some s.failure ≡ nat_lt 0 s.faults };
 }
 
 impl<R> FolderSpool<R> {
-    ghost use Rattle.std.specs.Prelude.{◌≡◌, ◌<◌, IfOk, IsSome};
+    ghost use Rattle.std.specs.Prelude.{◌≡◌, nat_lt, IfOk, is_some};
     ghost use Rattle.mt_adapters.specs.Device.{one_more};
 
     /// The files of a folder, of which no call has failed yet. It makes no call of the system.
@@ -65,9 +65,9 @@ impl<R> FolderSpool<R> {
         self.faults
     }
 
-    /// The first call that failed, and why.
+    /// The first call that failed, and why; there is one exactly where a fault was counted.
     pub fn failure(&self) -> Option<&io::Error>
-        ensures { IsSome result → 0 < self.now }
+        ensures { is_some result ≡ nat_lt 0 self.now }
     {
         self.failure.as_ref()
     }

@@ -47,18 +47,18 @@ pub struct ShSpawner<R> {
 }
 
 impl<R> Model for ShSpawner<R> {
-    ghost use Rattle.std.specs.Prelude.{◌<◌, IsSome};
+    ghost use Rattle.std.specs.Prelude.{◌≡◌, nat_lt, is_some};
     ghost use Rattle.mt_children.specs.State.{ShState};
 
     ghost Value = { ShState };
 
     ghost view = { λ s. record { live = s.children.items.items; faults = s.faults; waits = s.waits; company = s.company; held = s.held } };
 
-    ghost invariant = { λ s. IsSome s.failure → 0 < s.faults };
+    ghost invariant = { λ s. is_some s.failure ≡ nat_lt 0 s.faults };
 }
 
 impl<R> ShSpawner<R> {
-    ghost use Rattle.std.specs.Prelude.{◌≡◌, ◌<◌, IfOk, IsSome, is_some, length};
+    ghost use Rattle.std.specs.Prelude.{◌≡◌, nat_lt, IfOk, is_some, length};
     ghost use Rattle.mt_adapters.specs.Device.{one_more};
     ghost use Rattle.mt_spawn.specs.Children.{lives};
     ghost use Rattle.mt_children.specs.State.{first_state};
@@ -144,9 +144,9 @@ impl<R> ShSpawner<R> {
         self.company
     }
 
-    /// The first call that failed, and why.
+    /// The first call that failed, and why; there is one exactly where a fault was counted.
     pub fn failure(&self) -> Option<&io::Error>
-        ensures { IsSome result → 0 < self.now.faults }
+        ensures { is_some result ≡ nat_lt 0 self.now.faults }
     {
         self.failure.as_ref()
     }

@@ -1,6 +1,6 @@
 -- The spawner is seen as it was.
-use Rattle.std.proofs.Common.{◌≡◌, ◌<◌}
-use Rattle.std.specs.Prelude.{IsSome}
+use Rattle.std.proofs.Common.{◌≡◌, nat_lt}
+use Rattle.std.specs.Prelude.{is_some}
 use Rattle.mt_children.proofs.sh_spawner.ShSpawner.await_one.Given as goal
 
 abbrev pub invariant-looks : goal.invariant-looks
@@ -10,5 +10,5 @@ invariant-looks g l = record {
   waits : l.self-inside.waits ≡ l.fn.self.waits;
   company : l.self-inside.company ≡ l.fn.self.company;
   held : l.self-inside.held ≡ l.fn.self.held;
-  failed : IsSome l.self-inside.failure → 0 < l.self-inside.faults;
+  failed : is_some l.self-inside.failure ≡ nat_lt 0 l.self-inside.faults;
 }
