@@ -72,7 +72,7 @@ impl Untold {
 }
 
 impl Disk for Untold {
-    ghost use Rattle.std.specs.Prelude.{◌≡◌, None};
+    ghost use Rattle.std.specs.Prelude.{◌≡◌, None, ⊤};
     ghost use Rattle.std.proofs.lemmas.Option.{none-some};
 
     ghost seen = { λ d. None };
@@ -84,6 +84,8 @@ impl Disk for Untold {
     ghost left_since = { λ d t c. ⊥ };
 
     ghost faults = { λ d. d };
+
+    ghost stays = { λ a b. ⊤ };
 
     fn len(&mut self, file: FileNo) -> Result<u64, DiskFault> {
         let done = self.disk.len(file);
@@ -127,4 +129,8 @@ impl Disk for Untold {
     ghost only_now = { λ d c left. left };
 
     ghost seen_is_left = { λ d files is. none-some files is };
+
+    ghost same = { λ d. tt };
+
+    ghost joined = { λ a b c h k. tt };
 }

@@ -89,7 +89,7 @@ impl<R> FileDisk<R> {
 }
 
 impl<R: Files<File = File>> Disk for FileDisk<R> {
-    ghost use Rattle.std.specs.Prelude.{◌≡◌, None};
+    ghost use Rattle.std.specs.Prelude.{◌≡◌, None, ⊤};
     ghost use Rattle.std.proofs.lemmas.Option.{none-some};
     ghost use Rattle.mt_adapters.specs.Device.{faults_after};
 
@@ -102,6 +102,8 @@ impl<R: Files<File = File>> Disk for FileDisk<R> {
     ghost left_since = { λ d t c. ⊥ };
 
     ghost faults = { λ d. d };
+
+    ghost stays = { λ a b. ⊤ };
 
     fn len(&mut self, file: FileNo) -> Result<u64, DiskFault>
         ensures counted { self.new ≡ faults_after self.old result }
@@ -155,4 +157,8 @@ impl<R: Files<File = File>> Disk for FileDisk<R> {
     ghost only_now = { λ d c left. left };
 
     ghost seen_is_left = { λ d files is. none-some files is };
+
+    ghost same = { λ d. tt };
+
+    ghost joined = { λ a b c h k. tt };
 }

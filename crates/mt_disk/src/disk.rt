@@ -39,13 +39,17 @@ pub trait Disk {
     /// How often the disk has failed.
     ghost faults: { Self → ℕ };
 
+    /// What its calls keep of the disk itself: one over a disk that is lent holds that one still.
+    ghost stays: { Self → Self → Type 0 };
+
     /// The length of a file, in bytes.
     fn len(&mut self, file: FileNo) -> Result<u64, DiskFault>
         ensures bytes { IfOk result (λ n. IfSome (seen self.old) (λ files. n ≡ length (contents files file))) }
         ensures seen { seen self.new ≡ seen self.old }
         ensures crash { SameImages (may_leave self.old) (may_leave self.new) }
         ensures time { Elapses (moment self.old) (moment self.new) (left_since self.old) (left_since self.new) (may_leave self.new) }
-        ensures cause { HasCause (faults self.old) (faults self.new) result };
+        ensures cause { HasCause (faults self.old) (faults self.new) result }
+        ensures stays { stays self.old self.new };
 
     /// Fills the piece with the bytes of a file from a place on.
     fn read(&mut self, file: FileNo, at: u64, into: &mut [u8]) -> Result<(), DiskFault>
@@ -55,7 +59,8 @@ pub trait Disk {
         ensures seen { seen self.new ≡ seen self.old }
         ensures crash { SameImages (may_leave self.old) (may_leave self.new) }
         ensures time { Elapses (moment self.old) (moment self.new) (left_since self.old) (left_since self.new) (may_leave self.new) }
-        ensures cause { HasCause (faults self.old) (faults self.new) result };
+        ensures cause { HasCause (faults self.old) (faults self.new) result }
+        ensures stays { stays self.old self.new };
 
     /// Writes over what is there, and past the end. Until a sync, a crash may leave any bytes in the range.
     fn write_at(&mut self, file: FileNo, at: u64, piece: &[u8]) -> Result<(), DiskFault>
@@ -65,7 +70,8 @@ pub trait Disk {
         ensures told { is_some (seen self.new) ≡ is_some (seen self.old) }
         ensures crash { Follows (OnFile file (Torn at (length piece.now))) (may_leave self.old) (may_leave self.new) }
         ensures time { Elapses (moment self.old) (moment self.new) (left_since self.old) (left_since self.new) (may_leave self.new) }
-        ensures cause { HasCause (faults self.old) (faults self.new) result };
+        ensures cause { HasCause (faults self.old) (faults self.new) result }
+        ensures stays { stays self.old self.new };
 
     /// Cuts a file to a length. Until a sync, a crash may leave it cut or not.
     fn cut(&mut self, file: FileNo, to: u64) -> Result<(), DiskFault>
@@ -75,7 +81,8 @@ pub trait Disk {
         ensures told { is_some (seen self.new) ≡ is_some (seen self.old) }
         ensures crash { Follows (OnFile file (MaybeCut to)) (may_leave self.old) (may_leave self.new) }
         ensures time { Elapses (moment self.old) (moment self.new) (left_since self.old) (left_since self.new) (may_leave self.new) }
-        ensures cause { HasCause (faults self.old) (faults self.new) result };
+        ensures cause { HasCause (faults self.old) (faults self.new) result }
+        ensures stays { stays self.old self.new };
 
     /// After it, a crash leaves of this file what a read gives. A sync that fails adds nothing to what a crash
     /// may leave.
@@ -85,7 +92,8 @@ pub trait Disk {
         ensures seen { seen self.new ≡ seen self.old }
         ensures crash { (c : Files) → may_leave self.new c → may_leave self.old c }
         ensures time { Elapses (moment self.old) (moment self.new) (left_since self.old) (left_since self.new) (may_leave self.new) }
-        ensures cause { HasCause (faults self.old) (faults self.new) result };
+        ensures cause { HasCause (faults self.old) (faults self.new) result }
+        ensures stays { stays self.old self.new };
 
     /// What a crash now may leave counts among what one since an earlier moment might have left.
     ghost counts_now: { (disk : Self) (t : ℕ) (c : Files) → t ≤ moment disk → may_leave disk c → left_since disk t c };
@@ -95,4 +103,10 @@ pub trait Disk {
 
     /// What a read gives is one of the images that a crash now may leave.
     ghost seen_is_left: { (disk : Self) → ForSome (seen disk) (λ files. may_leave disk files) };
+
+    /// What no call was made of stays.
+    ghost same: { (disk : Self) → stays disk disk };
+
+    /// What stays over one call after another stays over both.
+    ghost joined: { (a b c : Self) → stays a b → stays b c → stays a c };
 }

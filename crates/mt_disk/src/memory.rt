@@ -150,7 +150,7 @@ impl MemDisk {
 }
 
 impl Disk for MemDisk {
-    ghost use Rattle.std.specs.Prelude.{Some, length};
+    ghost use Rattle.std.specs.Prelude.{Some, length, ⊤};
     ghost use Rattle.mt_disk.specs.Calls.{seen_after, Left, LeftSince};
     ghost use Rattle.mt_disk.specs.CallLaws.{left_now, left_only, seen_left};
 
@@ -164,11 +164,17 @@ impl Disk for MemDisk {
 
     ghost faults = { λ d. d.faults };
 
+    ghost stays = { λ a b. ⊤ };
+
     ghost counts_now = { λ d t c le left. left_now d.base d.past t c left };
 
     ghost only_now = { λ d c left. left_only d.base d.past c left };
 
     ghost seen_is_left = { λ d files is. seen_left d.base d.past files is };
+
+    ghost same = { λ d. tt };
+
+    ghost joined = { λ a b c h k. tt };
 
     fn len(&mut self, file: FileNo) -> Result<u64, DiskFault> {
         if self.fails() {
