@@ -32,6 +32,7 @@ pub(crate) fn read_some<D: Disk>(
     ensures count { IfOk result (λ n. (0 < n) × (n ≤ length into.new)) }
     ensures bytes { IfOk result (λ n. ForSome (told (D.seen disk.old)) (λ ps. take n into.new ≡ take n (drop at (bytes_of ps body.now)))) }
     ensures read { OnlyRead D.seen D.may_leave D.moment D.left_since disk.old disk.new }
+    ensures stays { D.stays disk.old disk.new }
     ensures cause { HasCause (D.faults disk.old) (D.faults disk.new) result }
 {
     let offset = at % PIECE;
@@ -61,6 +62,7 @@ pub fn read_body<D: Disk>(
     requires within { at + length into.old ≤ body.now.len }
     ensures bytes { OnOk result (ForSome (told (D.seen disk.old)) (λ ps. into.new ≡ take (length into.old) (drop at (bytes_of ps body.now)))) }
     ensures read { OnlyRead D.seen D.may_leave D.moment D.left_since disk.old disk.new }
+    ensures stays { D.stays disk.old disk.new }
     ensures cause { HasCause (D.faults disk.old) (D.faults disk.new) result }
 {
     // it is below 2 ^ 64, and so is each place within the body

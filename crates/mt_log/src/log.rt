@@ -63,6 +63,13 @@ impl Log {
             && self.limit - self.gate - RECORD_HEAD > payload
     }
 
+    /// The file that holds the log.
+    pub fn file(&self) -> FileNo
+        ensures { result ≡ self.now.file }
+    {
+        self.file
+    }
+
     /// How many bytes the log may get long, with its closed gate.
     pub fn limit(&self) -> u64
         ensures { result ≡ self.now.limit }

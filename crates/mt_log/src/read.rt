@@ -62,6 +62,7 @@ impl Log {
         requires place { ForSome (told (D.seen disk.old)) (λ ps. IsPlace place ps) }
         ensures len { IfOk result (λ n. ForSome (told (D.seen disk.old)) (λ ps. n ≡ length (payload_at place ps))) }
         ensures read { OnlyRead D.seen D.may_leave D.moment D.left_since disk.old disk.new }
+        ensures stays { D.stays disk.old disk.new }
         ensures cause { HasCause (D.faults disk.old) (D.faults disk.new) result }
     {
         let mut len = [0; 4];
@@ -82,6 +83,7 @@ impl Log {
         requires part { ForSome (told (D.seen disk.old)) (λ ps. from + length into.old ≤ length (payload_at place ps)) }
         ensures part { OnOk result (ForSome (told (D.seen disk.old)) (λ ps. into.new ≡ slice_range (payload_at place ps) from (from + length into.old))) }
         ensures read { OnlyRead D.seen D.may_leave D.moment D.left_since disk.old disk.new }
+        ensures stays { D.stays disk.old disk.new }
         ensures memory { result ≢ Err ReadFault.Memory }
         ensures cause { HasCause (D.faults disk.old) (D.faults disk.new) result }
     {
@@ -110,6 +112,7 @@ impl Log {
         ensures payload { OnOk result (ForSome (told (D.seen disk.old)) (λ ps. into.new.items ≡ payload_at place ps)) }
         ensures failed { OnErr result (into.new.items ≡ []) }
         ensures read { OnlyRead D.seen D.may_leave D.moment D.left_since disk.old disk.new }
+        ensures stays { D.stays disk.old disk.new }
         ensures disk { IsErrOf result ReadFault.Disk → Rose (D.faults disk.old) (D.faults disk.new) }
         ensures faults { NeverFell (D.faults disk.old) (D.faults disk.new) }
     {

@@ -25,4 +25,5 @@ loop-done-preserved g c =
       bytes = λ ps is. part_more (bytes_of ps c.args.body.now) into c.read_some.new.into c.args.at done (length into - done) count (omega (arith, i.within)) part (omega (arith, part, few)) (i.bytes ps is) (c.in_ok-count.ensures.bytes ps (ap told i.read.seen_same ∙ is));
       read = reads_on d.seen d.may_leave d.moment d.left_since _ _ _ i.read c.read_some.ensures.read;
       faults = omega (arith, i.faults, c.read_some.ensures.cause.later);
+      stays = g.met.D.Disk.joined _ _ _ i.stays c.read_some.ensures.stays;
     }

@@ -16,6 +16,7 @@ invariant-loop-done g l =
       bytes : ForSome (told (d.seen l.fn.disk)) (λ ps. take l.done l.into ≡ take l.done (drop l.at (bytes_of ps l.body)));
       read : OnlyRead d.seen d.may_leave d.moment d.left_since l.fn.disk l.disk;
       faults : NeverFell (d.faults l.fn.disk) (d.faults l.disk);
+      stays : d.stays l.fn.disk l.disk;
     }
 
 abbrev pub decreases-loop-done : goal.decreases-loop-done
