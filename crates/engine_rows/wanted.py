@@ -7,6 +7,7 @@ import hashlib
 import struct
 
 PIECE = 65_536
+WINDOW = 16_384
 
 
 def pattern(n):
@@ -55,6 +56,36 @@ class Store:
                 self.closed = True
                 return False
         return True
+
+    def read_again(self):
+        """What an opening reads of the records once they were found, as places and counts of bytes: of each payload its length and its
+        mark, of a command also the length again and all of it, and of a body its pieces."""
+        at = 8
+        while self.file[at] == 1:
+            size = int.from_bytes(self.file[at + 1:at + 5], "big")
+            payload = self.file[at + 21:at + 21 + size]
+            yield at + 1, 4
+            yield at + 21, 1
+            if payload[0] != 0:
+                yield at + 1, 4
+                yield at + 21, size
+            if payload[0] == 1:
+                first, left = struct.unpack(">QQ", payload[-16:])
+                while left:
+                    yield first + 22, min(left, PIECE)
+                    first, left = first + 22 + PIECE, max(0, left - PIECE)
+            at += 21 + size
+
+    def opening(self):
+        """How many calls of the disk open a log of at most 262,144 bytes that is there: a sync of each file, the length and the byte of head,
+        the length of the log and a read of all of it; then each read that doesn't lie in the window."""
+        made, start, stop = 7, 0, 0
+        for at, count in self.read_again():
+            if count >= WINDOW:
+                made += 1
+            elif at < start or at + count > stop:
+                made, start, stop = made + 1, at, min(at + WINDOW, len(self.file))
+        return made
 
     def size(self):
         return len(self.file) + sum(21 + len(p) for p in self.records)
@@ -230,7 +261,7 @@ class Table:
             self.store = Store()
         elif call == "open":
             s.limit, s.closed, s.records = int(words[0]), False, []
-            return f"Ok, {s.where()}"
+            return f"Ok, {s.where()}" if s.calls(s.opening()) else "Disk"
         elif call == "fail":
             s.failing, s.made = {int(w) for w in words}, 0
         elif call == "one":
@@ -306,6 +337,17 @@ def main():
     for call in range(6):
         for line in ("disk", "open 400000", f"fail {call}", "directory /l/stor/d 7"):
             t.row(line)
+
+    t.say("Openings of a log over a window of 16,384 bytes: each call of the disk fails in turn; the one behind the last is the next command's.")
+    for line in ("disk", "open 400000", "fail", "put /l/stor/a 5 7", "put /l/stor/b 16361 8", "put /l/stor/c 16362 9", "put /l/stor/d 16383 10",
+                 "put /l/stor/e 16384 11", "put /l/stor/f 0 12", "put /l/stor/g 65537 13", "link /l/stor/h /l/stor/g 14", "delete /l/stor/a 15",
+                 "put /l/stor/i 20000 16", "put /l/stor/j 16000 17", "put /l/stor/k 5 18", "put /l/stor/l 5 19"):
+        t.row(line)
+    for call in range(t.store.opening() + 1):
+        for line in (f"fail {call}", "open 400000"):
+            t.row(line)
+    for line in ("directory /l/stor/m 20", "fail", "open 400000", "rows", "at /l/stor/h", "send /l/stor/h 65530 65537"):
+        t.row(line)
 
     t.say("Stops in each call of a put of two pieces behind another, and what a crash leaves: the history of before, but where the call 9")
     t.lines.append("# fails, the sync of the gate. There the gate's byte is picked: what a read gives, nothing, a 0, a 1, half of it, or all.")

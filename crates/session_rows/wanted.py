@@ -18,11 +18,9 @@ SERVE = "serve --login l --store s --at 0 --listen x --connections"
 USAGE = b"usage: mantad COMMAND [OPTIONS]\n"
 PLAIN = {9: "\\t", 10: "\\n", 13: "\\r", 92: "\\x5c"}
 OPENING = 9  # calls of the disk that make a log and open it
-
-
-def reopening(records):
-    """Calls of the disk that open a log: a sync of each file, and five reads a record, three of which find its place and its digest."""
-    return 3 + 5 * records
+# Calls of the disk that open a log of less than 16,384 bytes with records: a sync of each file, the length and the byte of head, the
+# length of the log and a read of it, and one of the window over which its records are read again.
+REOPENING = 8
 
 
 # Rows.
@@ -366,7 +364,7 @@ def crashes(t):
     t.stops([8, 6, 8])
     t.session(put("a"), delete("a"))
     t.given(message("PUT /l/stor/d HTTP/1.1\nContent-Type: application/json; type=directory"), put("d/x"))
-    t.stops([6, 8], told=2, opening=reopening(3))
+    t.stops([6, 8], told=2, opening=REOPENING)
     t.note("The source fails; the sink fails, and the put is in the log.")
     t.new()
     t.given(put("a"), get("a"))
@@ -459,7 +457,7 @@ def serves(t):
     print("link")
     t.given(get("a"))
     print("link")
-    print(f"fail disk {reopening(8) + 8}")
+    print(f"fail disk {REOPENING + 8}")
     t.run(f"{SERVE} 2", 5, links=[t.replies(put("d"))])
     t.session(get("d"), get("e"))
 

@@ -30,6 +30,7 @@ fn digest_by<D: Disk>(
     requires room { 0 < body.now.len → 0 < length buffer.old }
     ensures digest { IfOk result (λ sum. ForSome (told (D.seen disk.old)) (λ ps. sum ≡ md5 (bytes_of ps body.now))) }
     ensures read { OnlyRead D.seen D.may_leave D.moment D.left_since disk.old disk.new }
+    ensures stays { D.stays disk.old disk.new }
     ensures cause { HasCause (D.faults disk.old) (D.faults disk.new) result }
 {
     let len = body.size();
@@ -56,6 +57,7 @@ fn digest_body<D: Disk>(
     requires stored { ForSome (told (D.seen disk.old)) (λ ps. is_stored ps body.now ≡ true) }
     ensures digest { IfOk result (λ sum. ForSome (told (D.seen disk.old)) (λ ps. sum ≡ md5 (bytes_of ps body.now))) }
     ensures read { OnlyRead D.seen D.may_leave D.moment D.left_since disk.old disk.new }
+    ensures stays { D.stays disk.old disk.new }
     ensures disk { IsErrOf result ReadFault.Disk → Rose (D.faults disk.old) (D.faults disk.new) }
     ensures faults { NeverFell (D.faults disk.old) (D.faults disk.new) }
 {
@@ -79,6 +81,7 @@ pub(crate) fn digested<D: Disk>(
     ensures same { IfOk result (λ c. (sum : List ℕ) × (c ≡ with_digest sum command)) }
     ensures digests { IfOk result (λ c. ForSome (told (D.seen disk.old)) (λ ps. OfCommand (IsStored ps) c)) }
     ensures read { OnlyRead D.seen D.may_leave D.moment D.left_since disk.old disk.new }
+    ensures stays { D.stays disk.old disk.new }
     ensures disk { IsErrOf result ReadFault.Disk → Rose (D.faults disk.old) (D.faults disk.new) }
     ensures faults { NeverFell (D.faults disk.old) (D.faults disk.new) }
 {

@@ -23,11 +23,16 @@ use crate::account::Account;
 use crate::digest::digested;
 use crate::opening::{OpenEnd, foreign};
 use crate::places::Places;
+use mt_ahead::ReadAhead;
+use mt_base::zeros;
 use mt_codec::{DecodeError, decode};
 use mt_disk::{Disk, DiskFault};
 use mt_log::Log;
 use mt_types::{Body, Command, LARGEST_PIECE, MOST_COMMANDS};
 use std::alloc::Global;
+
+/// The bytes of the log that are read ahead.
+const WINDOW: usize = 16_384;
 
 /// The bytes of the largest piece with its mark.
 const LARGEST_RECORD: u32 = LARGEST_PIECE as u32 + 1;
@@ -47,6 +52,7 @@ fn head_at<D: Disk>(log: &Log, disk: &mut D, place: u64) -> Result<Head, DiskFau
     ensures head { IfOk result (λ h. ForSome (told (D.seen disk.old)) (λ ps. (h.len ≡ length (payload_at place ps)) × (h.is_piece ≡ is_piece (payload_at place ps)))) }
     ensures size { IfOk result (λ h. h.is_piece ≡ true → (1 < h.len) × (h.len ≤ 65537)) }
     ensures read { OnlyRead D.seen D.may_leave D.moment D.left_since disk.old disk.new }
+    ensures stays { D.stays disk.old disk.new }
     ensures cause { HasCause (D.faults disk.old) (D.faults disk.new) result }
 {
     let len = log.payload_len(disk, place)?;
@@ -81,6 +87,7 @@ fn command_at<D: Disk>(
     ensures none { (why : Unreadable) → result ≡ Err (OpenEnd.Unreadable why) →
         (why ≡ Foreign place) × ForSome (told (D.seen disk.old)) (λ ps. (c : Command Body) → HasSpelling c → payload_at place ps ≢ spelling c) }
     ensures read { OnlyRead D.seen D.may_leave D.moment D.left_since disk.old disk.new }
+    ensures stays { D.stays disk.old disk.new }
     ensures disk { IsErrOf result OpenEnd.Disk → Rose (D.faults disk.old) (D.faults disk.new) }
     ensures faults { NeverFell (D.faults disk.old) (D.faults disk.new) }
 {
@@ -167,6 +174,7 @@ fn load_command<D: Disk>(
         IsLoading ps (next_place place (length (payload_at place ps))) account.new places.now.earlier.items places.now.last)) }
     ensures foreign { (why : Unreadable) → result ≡ Err (OpenEnd.Unreadable why) → ForSome (told (D.seen disk.old)) (λ ps. NamesForeign ps why) }
     ensures read { OnlyRead D.seen D.may_leave D.moment D.left_since disk.old disk.new }
+    ensures stays { D.stays disk.old disk.new }
     ensures disk { IsErrOf result OpenEnd.Disk → Rose (D.faults disk.old) (D.faults disk.new) }
     ensures faults { NeverFell (D.faults disk.old) (D.faults disk.new) }
 {
@@ -200,6 +208,7 @@ fn load_one<D: Disk>(
     ensures next { IfOk result (λ next. (place < next) × (next ≤ log.now.gate)) }
     ensures foreign { (why : Unreadable) → result ≡ Err (OpenEnd.Unreadable why) → ForSome (told (D.seen disk.old)) (λ ps. NamesForeign ps why) }
     ensures read { OnlyRead D.seen D.may_leave D.moment D.left_since disk.old disk.new }
+    ensures stays { D.stays disk.old disk.new }
     ensures disk { IsErrOf result OpenEnd.Disk → Rose (D.faults disk.old) (D.faults disk.new) }
     ensures faults { NeverFell (D.faults disk.old) (D.faults disk.new) }
 {
@@ -217,13 +226,18 @@ fn load_one<D: Disk>(
     Ok(next)
 }
 
-/// Reads the payloads of a log that was opened, and gives the state that they lead to. It keeps 16 bytes a body beside the state.
-pub(crate) fn load<D: Disk>(alloc: Global, log: &Log, disk: &mut D) -> Result<Account, OpenEnd>
+// Reads the payloads of a log one behind the other, and gives the state that they lead to.
+fn load_payloads<D: Disk>(
+    alloc: Global,
+    log: &Log,
+    disk: &mut D,
+) -> Result<Account, OpenEnd>
     requires there { IsThere D.seen disk.old log.now }
     requires is_open { log.now.closed ≡ false }
     ensures loaded { IfOk result (λ account. ForSome (told (D.seen disk.old)) (λ ps. IsLoaded ps account)) }
     ensures foreign { (why : Unreadable) → result ≡ Err (OpenEnd.Unreadable why) → ForSome (told (D.seen disk.old)) (λ ps. NamesForeign ps why) }
     ensures read { OnlyRead D.seen D.may_leave D.moment D.left_since disk.old disk.new }
+    ensures stays { D.stays disk.old disk.new }
     ensures disk { IsErrOf result OpenEnd.Disk → Rose (D.faults disk.old) (D.faults disk.new) }
     ensures faults { NeverFell (D.faults disk.old) (D.faults disk.new) }
 {
@@ -247,4 +261,20 @@ pub(crate) fn load<D: Disk>(alloc: Global, log: &Log, disk: &mut D) -> Result<Ac
         }
     }
     Ok(account)
+}
+
+/// Reads the payloads of a log that was opened, and gives the state that they lead to. It keeps 16 bytes a body and a window of 16,384
+/// bytes of the log beside the state.
+pub(crate) fn load<D: Disk>(alloc: Global, log: &Log, disk: &mut D) -> Result<Account, OpenEnd>
+    requires there { IsThere D.seen disk.old log.now }
+    requires is_open { log.now.closed ≡ false }
+    ensures loaded { IfOk result (λ account. ForSome (told (D.seen disk.old)) (λ ps. IsLoaded ps account)) }
+    ensures foreign { (why : Unreadable) → result ≡ Err (OpenEnd.Unreadable why) → ForSome (told (D.seen disk.old)) (λ ps. NamesForeign ps why) }
+    ensures read { OnlyRead D.seen D.may_leave D.moment D.left_since disk.old disk.new }
+    ensures disk { IsErrOf result OpenEnd.Disk → Rose (D.faults disk.old) (D.faults disk.new) }
+    ensures faults { NeverFell (D.faults disk.old) (D.faults disk.new) }
+{
+    let mut window = zeros(alloc, WINDOW)?;
+    let mut ahead = ReadAhead::new(disk, log.file(), log.len(), window.as_mut_slice());
+    load_payloads(alloc, log, &mut ahead)
 }

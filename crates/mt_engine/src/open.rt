@@ -50,8 +50,8 @@ fn open_log<D: Disk>(alloc: Global, disk: &mut D, limit: u64) -> Result<(Log, Ac
 
 impl Engine {
     /// Opens the log of a disk, which may get `limit` bytes long, and the state that it stands for. A log is made where there is none,
-    /// and one that can't be read is left as it is. It keeps 16 bytes a body while it opens, and digests each byte of a body once for
-    /// each command that brings it.
+    /// and one that can't be read is left as it is. While it opens it keeps 16 bytes a body and a window of 16,384 bytes of the log; it
+    /// digests each byte of a body once for each command that brings it.
     pub fn open<D: Disk>(alloc: Global, disk: &mut D, limit: u64) -> Result<Engine, OpenEnd>
         requires rest { IsAtRest D.seen D.may_leave disk.old }
         requires fit { ForSome (D.seen disk.old) Fit }

@@ -27,6 +27,7 @@ loop-at-preserved g c =
           subst (λ l. Holds c.update.new.self l) (ap (λ l. take at bytes ++ l) part ∙ sym (take-add at count bytes)) (c.update.ensures (take at bytes) (i.sum ps is));
       read = reads_on d.seen d.may_leave d.moment d.left_since _ _ _ i.read c.read_body.ensures.read;
       faults = omega (arith, i.faults, c.read_body.ensures.cause.later);
+      stays = g.met.D.Disk.joined _ _ _ i.stays c.read_body.ensures.stays;
     }
 
 pub returns-clause-digest : goal.returns-clause-digest

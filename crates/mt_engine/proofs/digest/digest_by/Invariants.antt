@@ -17,6 +17,7 @@ invariant-loop-at g l =
       sum : ForSome (told (d.seen l.fn.disk)) (λ ps. Holds l.sum (take l.at (bytes_of ps l.body)));
       read : OnlyRead d.seen d.may_leave d.moment d.left_since l.fn.disk l.disk;
       faults : NeverFell (d.faults l.fn.disk) (d.faults l.disk);
+      stays : d.stays l.fn.disk l.disk;
     }
 
 abbrev pub decreases-loop-at : goal.decreases-loop-at

@@ -1,27 +1,37 @@
--- The payloads of the log, one behind the other.
-use Rattle.std.proofs.Common.{ap, sym, ◌∙◌, arith}
-use Rattle.mt_disk.proofs.Readings.{reads_none}
+-- What is read over the window is read of the disk that was lent to it, which is the disk at the end.
+use Rattle.std.proofs.Common.{◌≡◌, ap, subst, rules}
+use Rattle.std.specs.Option.{ForSome}
+use Rattle.mt_base.specs.Counts.{NeverFell, Rose}
+use Rattle.mt_disk.specs.CrashModel.{OnlyRead}
 use Rattle.mt_log.specs.LogState.{told}
-use Rattle.mt_log.proofs.Standing.{tells_log}
-use Rattle.mt_engine.proofs.Loading.{all_loaded, first_loading, record_here}
+use Rattle.mt_engine.specs.Opening.{NamesForeign}
 use Rattle.mt_engine.proofs.load.load.Goals as goal
 
-pub payloads-init : goal.payloads-init
-payloads-init g c = record {
-  so_far = λ ps is. first_loading ps c.first-place.result c.in_ok-account.account c.new-places.result.earlier.items c.new-places.result.last c.first-place.ensures.place c.in_ok-account.ensures c.new-places.ensures;
-  read = reads_none g.D.Disk.seen g.D.Disk.may_leave g.D.Disk.moment g.D.Disk.left_since c.args.disk.now;
-  faults = omega arith;
-}
+pub returns-clause-read : goal.returns-clause-read
+returns-clause-read g c =
+    let d = g.D.Disk in
+    let now = c.load_payloads.new.disk.disk.now in
+    let same : c.disk-1.given.0 ≡ now = search rules in
+    let read = c.load_payloads.ensures.read in
+    rw same (
+      subst (λ old. OnlyRead d.seen d.may_leave d.moment d.left_since old now) (ap (λ b. b.now) c.new-ahead.ensures)
+      (record { seen_same = read.seen_same; images = read.images; time = read.time })
+    )
 
-pub load_one-requires-clause-place : goal.load_one-requires-clause-place
-load_one-requires-clause-place g c ps is =
-    let i = c.payloads.invariant in
-    let was = sym (ap told i.read.seen_same) ∙ is in
-    let log = tells_log g.D.Disk.seen c.args.disk.now c.args.log.now c.requires.there c.requires.is_open ps was in
-    record_here ps c.payloads.place c.payloads.account c.payloads.places.earlier.items c.payloads.places.last (i.so_far ps was) _ _ _ log.holds (omega (arith, c.payloads-test.true, c.len-gate.ensures))
+pub returns-clause-disk : goal.returns-clause-disk
+returns-clause-disk g c is =
+    let d = g.D.Disk in
+    let now = c.load_payloads.new.disk.disk.now in
+    let same : c.disk-1.given.0 ≡ now = search rules in
+    rw same (subst (λ old. Rose (d.faults old) (d.faults now)) (ap (λ b. b.now) c.new-ahead.ensures) (c.load_payloads.ensures.disk is))
 
-pub returns-clause-loaded : goal.returns-clause-loaded
-returns-clause-loaded g c ps is =
-    let i = c.payloads.invariant in
-    let log = tells_log g.D.Disk.seen c.args.disk.now c.args.log.now c.requires.there c.requires.is_open ps is in
-    all_loaded ps c.payloads.place c.payloads.account c.payloads.places.earlier.items c.payloads.places.last (i.so_far ps is) _ _ _ log.holds (omega (arith, c.payloads-test.false, c.len-gate.ensures))
+pub returns-clause-faults : goal.returns-clause-faults
+returns-clause-faults g c =
+    let d = g.D.Disk in
+    let now = c.load_payloads.new.disk.disk.now in
+    let same : c.disk-1.given.0 ≡ now = search rules in
+    rw same (subst (λ old. NeverFell (d.faults old) (d.faults now)) (ap (λ b. b.now) c.new-ahead.ensures) c.load_payloads.ensures.faults)
+
+pub returns-clause-foreign : goal.returns-clause-foreign
+returns-clause-foreign g c why is =
+    subst (λ old. ForSome (told (g.D.Disk.seen old)) (λ ps. NamesForeign ps why)) (ap (λ b. b.now) c.new-ahead.ensures) (c.load_payloads.ensures.foreign why is)
