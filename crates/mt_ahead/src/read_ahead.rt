@@ -55,12 +55,7 @@ fn copy_part(piece: &[u8], from: usize, into: &mut [u8])
 impl<'a, D: Disk> ReadAhead<'a, D> {
     /// Reads ahead in a file of a disk, of which the first `end` bytes are there, as far as a piece of memory takes. It makes no call of
     /// the disk, and takes no memory. The disk that is lent stays the same one over each call (`stays`).
-    pub fn new(
-        disk: &'a mut D,
-        file: FileNo,
-        end: u64,
-        piece: &'a mut [u8],
-    ) -> ReadAhead<'a, D>
+    pub fn new(disk: &'a mut D, file: FileNo, end: u64, piece: &'a mut [u8]) -> ReadAhead<'a, D>
         requires { ForSome (D.seen disk.old) (λ files. end ≤ length (contents files file)) }
         ensures { result.disk ≡ disk.entry }
     {

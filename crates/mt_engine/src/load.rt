@@ -227,11 +227,7 @@ fn load_one<D: Disk>(
 }
 
 // Reads the payloads of a log one behind the other, and gives the state that they lead to.
-fn load_payloads<D: Disk>(
-    alloc: Global,
-    log: &Log,
-    disk: &mut D,
-) -> Result<Account, OpenEnd>
+fn load_payloads<D: Disk>(alloc: Global, log: &Log, disk: &mut D) -> Result<Account, OpenEnd>
     requires there { IsThere D.seen disk.old log.now }
     requires is_open { log.now.closed ≡ false }
     ensures loaded { IfOk result (λ account. ForSome (told (D.seen disk.old)) (λ ps. IsLoaded ps account)) }

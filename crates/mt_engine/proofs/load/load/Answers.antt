@@ -14,8 +14,8 @@ returns-clause-read g c =
     let same : c.disk-1.given.0 ≡ now = search rules in
     let read = c.load_payloads.ensures.read in
     rw same (
-      subst (λ old. OnlyRead d.seen d.may_leave d.moment d.left_since old now) (ap (λ b. b.now) c.new-ahead.ensures)
-      (record { seen_same = read.seen_same; images = read.images; time = read.time })
+    subst (λ old. OnlyRead d.seen d.may_leave d.moment d.left_since old now) (ap (λ b. b.now) c.new-ahead.ensures)
+    (record { seen_same = read.seen_same; images = read.images; time = read.time })
     )
 
 pub returns-clause-disk : goal.returns-clause-disk
