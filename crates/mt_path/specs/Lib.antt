@@ -1,3 +1,4 @@
 pub mod AccountPath
+pub mod Keys
 pub mod Names
 pub mod PathOrder

@@ -2,6 +2,7 @@
 //!
 //! - `path`: the type, with what is above, below and beside a path, and its text; `order`: its order.
 //! - `names`: paths from request targets and from texts, by their `pieces`.
+//! - `key`: the one byte string that a path is held as.
 //! - `component`: which bytes may stand in a path, and which name an account; `area`, `limits`, `error`.
 //! - `laws`: a printed path is read again; the order is total and exact; a child is below its parent.
 #![tactic(auto)]
@@ -9,6 +10,7 @@
 mod area;
 mod component;
 mod error;
+mod key;
 pub mod laws;
 mod limits;
 mod names;
@@ -19,6 +21,7 @@ mod pieces;
 pub use area::Area;
 pub use component::{is_component, is_login};
 pub use error::PathError;
+pub use key::{behind_first, first_part};
 pub use limits::{LONGEST_COMPONENT, LONGEST_LOGIN, LONGEST_PATH};
 pub use mt_base::{Bytes, Duplicate, Sequence, Text};
 pub use names::target_names;

@@ -20,7 +20,7 @@ impl Path {
     pub fn parse(alloc: Global, login: &str, raw: &[u8]) -> Result<Path, PathError>
         ensures { IsUnlessMemory (path_of_target login.now raw.now) result }
     {
-        path_of(target_names(alloc, login, raw)?)
+        path_of(alloc, target_names(alloc, login, raw)?)
     }
 
     /// The path that a name in a text names: split as a target is, but neither cut nor decoded. A first
@@ -29,7 +29,7 @@ impl Path {
     pub fn plain(alloc: Global, login: &str, text: &[u8]) -> Result<Path, PathError>
         ensures { IsUnlessMemory (path_of_text login.now text.now) result }
     {
-        path_of(text_names(alloc, login.as_bytes(), text)?)
+        path_of(alloc, text_names(alloc, login.as_bytes(), text)?)
     }
 }
 
@@ -101,17 +101,15 @@ fn judged(names: Vec<Bytes>, is_own: bool) -> Result<Sequence<Bytes>, PathError>
 
 // The path of the names behind a login.
 #[tactic(auto, unfolding(crate::specs::Names::path_of))]
-fn path_of(names: Sequence<Bytes>) -> Result<Path, PathError>
+fn path_of(alloc: Global, names: Sequence<Bytes>) -> Result<Path, PathError>
     requires { AreNames names }
-    ensures { result ≡ path_of names }
+    ensures { IsUnlessMemory (path_of names) result }
 {
-    let mut parts = names.into_vec();
-    if parts.is_empty() {
+    let [name, parts @ ..] = names.as_slice() else {
         return Err(PathError::NoArea);
-    }
-    let name = parts.remove(0);
+    };
     match Area::named(name.as_slice()) {
-        Some(area) => Ok(Path::from_parts(area, parts)),
+        Some(area) => Ok(Path::from_parts(alloc, area, parts)?),
         None => Err(PathError::NoArea),
     }
 }

@@ -42,7 +42,7 @@ impl Ord for Path {
 
     fn cmp(&self, other: &Path) -> Ordering {
         match self.area().number().cmp(&other.area().number()) {
-            Ordering::Equal => self.parts().cmp(&other.parts()),
+            Ordering::Equal => self.key().cmp(other.key()),
             unequal => unequal,
         }
     }
