@@ -69,9 +69,9 @@ impl Show for Path {
     fn show(&self, out: &mut String) -> Result<(), AllocError> {
         out.push('/')?;
         out.push_str(self.area().name())?;
-        for name in self.parts() {
+        for k in 0..self.len() {
             out.push('/')?;
-            put_escaped(out, name.as_slice())?;
+            put_escaped(out, self.part(k))?;
         }
         Ok(())
     }

@@ -1,20 +1,20 @@
 //! Texts, paths and bodies, read from a cursor.
-ghost use Rattle.std.specs.Prelude.{◌≡◌, length, nat_le, Option, Some, None, IsUtf8, IfOk, if◌then◌else◌};
+ghost use Rattle.std.specs.Prelude.{◌≡◌, ◌≤◌, ◌∷◌, ◌++◌, Option, Some, None, IsUtf8, IfOk, OnOk, if◌then◌else◌};
 ghost use Rattle.std.specs.Int.{w16, w32, w64};
 ghost use Rattle.std.specs.Str.{is_utf8};
 ghost use Rattle.mt_types.specs.Limits.{is_command_line, is_job_name, is_line_text, is_metadata_name, is_plain_text};
-ghost use Rattle.mt_codec.specs.Reading.{Gives, Makes, Shows, byte_at, counted, named, number_at, optional, sized, tested};
-ghost use Rattle.mt_path.specs.AccountPath.{slashed};
+ghost use Rattle.mt_codec.specs.Reading.{Gives, Makes, Shows, byte_at, named, number_at, sized, tested, times};
+ghost use Rattle.mt_path.specs.Keys.{IsKey, parts_of};
 ghost use Rattle.mt_codec.specs.Readers.{area_numbered, is_few_parts, is_short, path_of, body_at, command_line_at, component_at, content_type_at, field_at, metadata_at, path_at, texts};
 
 use crate::error::DecodeError;
 use crate::numbers::{byte, eight, long_piece, short_piece, two};
 use crate::spelled::{Spelled, times};
-use crate::writing::{put_field, put_path, put_text};
+use crate::writing::{put_field, put_path};
 use mt_bytes::Cursor;
 use mt_path::{Area, LONGEST_PATH, is_component};
 use mt_types::{
-    Body, Bytes, Field, Fields, LARGEST_METADATA, MOST_METADATA, Path, Sequence, Text, are_by_name,
+    Body, Bytes, Field, Fields, LARGEST_METADATA, MOST_METADATA, Path, Text, are_by_name,
     is_command_line, is_content_type, is_job_name, is_line_text, is_metadata_name,
     is_metadata_within, is_plain_text,
 };
@@ -112,14 +112,14 @@ pub fn line_text(alloc: Global, cursor: &mut Cursor) -> Result<Text, DecodeError
 }
 
 // A component of a path.
-fn component(alloc: Global, cursor: &mut Cursor) -> Result<Bytes, DecodeError>
-    ensures { Gives result cursor.new (component_at cursor.old) }
+fn component<'a>(cursor: &mut Cursor<'a>) -> Result<&'a [u8], DecodeError>
+    ensures { Shows (λ name. name.now) result cursor.new (component_at cursor.old) }
 {
     let piece = short_piece(cursor)?;
     if !is_component(piece) {
         return Err(DecodeError::NotACommand);
     }
-    Ok(Bytes::from_slice(alloc, piece)?)
+    Ok(piece)
 }
 
 // An area.
@@ -134,36 +134,55 @@ fn area(cursor: &mut Cursor) -> Result<Area, DecodeError>
     }
 }
 
-impl Spelled for Bytes {
-    ghost use Rattle.mt_path.specs.AccountPath.{IsComponent};
-    ghost use Rattle.mt_codec.specs.Fields.{text_spelling};
-    ghost use Rattle.mt_codec.specs.Readers.{component_at};
-
-    ghost read_at = { component_at };
-
-    ghost spelling = { text_spelling };
-
-    ghost fits = { IsComponent };
-
-    fn read(alloc: Global, cursor: &mut Cursor) -> Result<Bytes, DecodeError> {
-        component(alloc, cursor)
-    }
-
-    fn write(&self, out: &mut Vec<u8>) -> Result<(), AllocError> {
-        put_text(out, self.as_slice())
-    }
-}
-
-// The components of a path. Where it tells of more than a path may have, none is read.
-fn components(alloc: Global, cursor: &mut Cursor) -> Result<Vec<Bytes>, DecodeError>
-    ensures { Shows (λ parts. parts.items) result cursor.new (counted (tested is_few_parts (number_at w16)) component_at cursor.old) }
+// The number of components. Where it says more than a path may have, none is read.
+fn part_count(cursor: &mut Cursor) -> Result<usize, DecodeError>
+    ensures { Gives result cursor.new (tested is_few_parts (number_at w16) cursor.old) }
 {
     let n = two(cursor)? as usize;
     if n > MOST_PARTS {
         return Err(DecodeError::NotACommand);
     }
-    let parts: Sequence<Bytes> = times(alloc, n, cursor)?;
-    Ok(parts.into_vec())
+    Ok(n)
+}
+
+// The components of a path, so many, as a key, whose room is taken at once.
+fn key_of(alloc: Global, n: usize, cursor: &mut Cursor) -> Result<Vec<u8>, DecodeError>
+    ensures parts { Shows (λ key. parts_of key.items) result cursor.new (times component_at n cursor.old) }
+    ensures key { IfOk result (λ key. IsKey key.items) }
+{
+    let mut key = Vec::with_capacity(alloc, room_of(n, cursor.left()))?;
+    for _ in 0..n {
+        put_part(&mut key, component(cursor)?)?;
+    }
+    Ok(key)
+}
+
+// The length of the key of the components at the front of bytes, so many. Where they are not whole, or too
+// long for a path, it is that of those before.
+fn room_of(n: usize, bytes: &[u8]) -> usize
+    ensures { result ≤ LONGEST_PATH }
+{
+    let mut ahead = Cursor::new(bytes);
+    let mut room = 0;
+    for _ in 0..n {
+        let len = match short_piece(&mut ahead) {
+            Ok(piece) => piece.len(),
+            Err(_) => return room,
+        };
+        if len >= LONGEST_PATH - room {
+            return room;
+        }
+        room += len + 1;
+    }
+    room
+}
+
+// Adds a component at the end of a key.
+fn put_part(key: &mut Vec<u8>, name: &[u8]) -> Result<(), AllocError>
+    ensures { OnOk result (key.new.items ≡ key.old.items ++ 0 ∷ name.now) }
+{
+    key.push(0)?;
+    key.extend_from_slice(name)
 }
 
 /// A path.
@@ -172,34 +191,20 @@ pub fn path(alloc: Global, cursor: &mut Cursor) -> Result<Path, DecodeError>
     ensures { Gives result cursor.new (path_at cursor.old) }
 {
     let area = area(cursor)?;
-    let parts = components(alloc, cursor)?;
-    if !is_short(area, &parts) {
+    let n = part_count(cursor)?;
+    let key = key_of(alloc, n, cursor)?;
+    if !is_short(area, &key) {
         return Err(DecodeError::NotACommand);
     }
-    Ok(Path::from_parts(area, parts))
+    Ok(Path::from_key(area, key))
 }
 
 // Whether a path has no more bytes than one may have.
-fn is_short(area: Area, parts: &[Bytes]) -> bool
-    ensures { result ≡ is_short (path_of (area, parts.now)) }
+fn is_short(area: Area, key: &[u8]) -> bool
+    requires { IsKey key.now }
+    ensures { result ≡ is_short (path_of (area, parts_of key.now)) }
 {
-    let area_len = area.name().len() + 1;
-    is_within(parts, LONGEST_PATH - area_len)
-}
-
-// Whether components, each with its slash, have at most so many bytes.
-fn is_within(parts: &[Bytes], most: usize) -> bool
-    ensures { result ≡ nat_le (length (slashed parts.now)) most }
-{
-    match parts {
-        [] => true,
-        [first, rest @ ..] => {
-            if first.len() >= most {
-                return false;
-            }
-            is_within(rest, most - first.len() - 1)
-        }
-    }
+    area.name().len() + 1 + key.len() <= LONGEST_PATH
 }
 
 impl Spelled for Path {

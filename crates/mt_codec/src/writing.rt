@@ -1,6 +1,8 @@
 //! Fields, appended to a vector. On an error, which is want of memory, what the vector holds is not said.
 ghost use Rattle.std.specs.Prelude.{◌≡◌, ◌<◌, ◌^◌, ◌++◌, false, length, IfSome, IsTrue, OnOk};
-ghost use Rattle.std.specs.List.{flat_map};
+ghost use Rattle.std.specs.List.{AllByRecursion, flat_map};
+ghost use Rattle.mt_path.specs.AccountPath.{IsComponent};
+ghost use Rattle.mt_path.specs.Keys.{IsKey, parts_of};
 ghost use Rattle.mt_base.specs.Numbers.{big_endian_16, big_endian_32, big_endian_64};
 ghost use Rattle.mt_types.specs.Limits.{is_command_line, is_content_type, is_durability};
 ghost use Rattle.mt_codec.specs.Fields.{body_spelling, long_text_spelling, optional_spelling, path_spelling, text_spelling};
@@ -9,6 +11,7 @@ ghost use Rattle.mt_types.specs.Limits.{FitsMetadata};
 
 use crate::spelled::put_all;
 use mt_bytes::{put_bytes, put_u8, put_u16, put_u32, put_u64};
+use mt_path::{behind_first, first_part};
 use mt_types::{Body, Field, Path, Text};
 use std::alloc::AllocError;
 
@@ -35,10 +38,24 @@ pub fn put_long_text(out: &mut Vec<u8>, text: &[u8]) -> Result<(), AllocError>
 pub fn put_path(out: &mut Vec<u8>, path: &Path) -> Result<(), AllocError>
     ensures { OnOk result (out.new.items ≡ out.old.items ++ path_spelling path.now) }
 {
-    let parts = path.parts();
+    let key = path.key();
     put_u8(out, path.area().number())?;
-    put_u16(out, parts.len() as u16)?;
-    put_all(out, parts)
+    put_u16(out, path.len() as u16)?;
+    put_parts(out, key)
+}
+
+// The components of a key.
+fn put_parts(out: &mut Vec<u8>, key: &[u8]) -> Result<(), AllocError>
+    requires key { IsKey key.now }
+    requires parts { AllByRecursion IsComponent (parts_of key.now) }
+    ensures { OnOk result (out.new.items ≡ out.old.items ++ flat_map text_spelling (parts_of key.now)) }
+{
+    let mut left = key;
+    while !left.is_empty() {
+        put_text(out, first_part(left))?;
+        left = behind_first(left);
+    }
+    Ok(())
 }
 
 /// The place and the length of a body.
