@@ -198,9 +198,6 @@ some_parts key k some = some_from (parts_of key) k.whole
     some_from [] e = absurd (omega (arith, some, ap length e))
     some_from (c ∷ parts) e = omega arith
 
-pub no_parts : (key : List ℕ) → key ≡ [] → parts_of key ≡ []
-no_parts key e = ap parts_of e
-
 -- the last byte 0 of a key begins its last component
 above_zero : (c : List ℕ) (i : ℕ) → IsClear c → i < length c → 0 < get_or c i 0
 above_zero [] i clear within = absurd (omega arith)
