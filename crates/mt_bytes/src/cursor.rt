@@ -104,6 +104,13 @@ impl<'a> Cursor<'a> {
         Ok(piece)
     }
 
+    /// The bytes that are left. The cursor stays.
+    pub fn left(&self) -> &'a [u8]
+        ensures { result.now ≡ self.now }
+    {
+        self.left
+    }
+
     /// Whether no byte is left.
     pub fn at_end(&self) -> bool
         ensures { IsTrue result ↔ (self.now ≡ []) }
