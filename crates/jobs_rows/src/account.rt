@@ -119,7 +119,7 @@ impl Account {
                     jobs,
                     position,
                 } = self;
-                let _parts = path.parts();
+                let _key = path.key();
                 let object = Object {
                     number: position * NUMBERS_A_COMMAND,
                     body: body(len),
@@ -151,7 +151,7 @@ impl Account {
                     jobs,
                     position,
                 } = self;
-                let _parts = path.parts();
+                let _key = path.key();
                 tree.make_directory(path, FIRST_MOMENT + position)?;
                 let account = Account {
                     tree,

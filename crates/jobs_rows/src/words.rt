@@ -30,7 +30,7 @@ pub fn path_at(alloc: Global, row: &Row, place: usize) -> Result<Path, Stop>
 {
     match Path::plain(alloc, "l", row.bytes(place)?) {
         Ok(path) => {
-            let _parts = path.parts();
+            let _key = path.key();
             Ok(path)
         }
         Err(_) => Err(Stop::NoSuchRow),

@@ -106,19 +106,19 @@ pub fn has_spelling(command: &Command<Body>)
 {
     match command {
         Command::Put { path, body, .. } => {
-            let _path = path.parts();
+            let _path = path.key();
             is_number(body.first);
             is_number(body.len);
         }
         Command::MakeDirectory { path, .. } => {
-            let _path = path.parts();
+            let _path = path.key();
         }
         Command::Link { path, source, .. } => {
-            let _path = path.parts();
-            let _source = source.parts();
+            let _path = path.key();
+            let _source = source.key();
         }
         Command::Delete { path, .. } => {
-            let _path = path.parts();
+            let _path = path.key();
         }
         _ => unreachable!(),
     }

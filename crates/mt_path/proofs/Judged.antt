@@ -1,8 +1,8 @@
 -- What is read from pieces: the names behind the login make a path where the first names an area.
-use Rattle.std.proofs.Common.{◌≡◌, ℕ, ◌+◌, ◌<◌, ◌≤◌, List, [], ◌∷◌, Bool, true, false, not, bytes_eq, cond, nat_lt, Option, Some, None, Result, Ok, Err, length, take, drop, remove, get_or, refl, sym, ap, ◌∙◌, arith, inl, inr, length-append}
+use Rattle.std.proofs.Common.{◌≡◌, ℕ, ◌+◌, ◌-◌, ◌<◌, ◌≤◌, List, [], ◌∷◌, Bool, true, false, not, bytes_eq, cond, nat_lt, Option, Some, None, Result, Ok, Err, length, take, drop, get_or, refl, sym, ap, ◌∙◌, arith, inl, inr, length-append}
 use Rattle.std.specs.List.{AllByRecursion, list_all}
 use Rattle.std.proofs.lemmas.Bool.{and_parts, cases_Bool, cond-true, cond-false, ltb-false, not-false}
-use Rattle.std.proofs.lemmas.List.{take_more}
+use Rattle.std.proofs.lemmas.List.{take_all, take_more}
 use Rattle.std.proofs.lemmas.List.Concat.{flat_map-append}
 use Rattle.std.proofs.lemmas.List.Elements.{All-from_recursion}
 use Rattle.std.proofs.lemmas.Slice.Eq.{bytes_eq-Decides}
@@ -63,10 +63,10 @@ pub area_of-name : (name : List ℕ) (area : Area) → area_of name ≡ Some are
 area_of-name name area found =
     named name Stor area _ (named name Public area _ (named name Jobs area None (λ never. absurd (let e : None ≡ Some area = never in cc)))) found
 
--- a list without its first element, and that element
-pub removed_first : {X : Type 0} (xs rest : List X) (first : X) → 0 < length xs → first ≡ get_or xs 0 first → rest ≡ remove xs 0 → xs ≡ first ∷ rest
-removed_first [] rest first some is left = absurd (omega arith)
-removed_first (x ∷ xs) rest first some is left = λ i. sym is i ∷ sym left i
+-- a list is its first element before the others
+pub first_and_others : {X : Type 0} (xs : List X) (first : X) → 1 ≤ length xs → first ≡ get_or xs 0 first → xs ≡ first ∷ take (length xs - 1) (drop 1 xs)
+first_and_others [] first some is = absurd (omega arith)
+first_and_others (x ∷ xs) first some is = λ i. sym is i ∷ sym (take_all (length (x ∷ xs) - 1) xs (omega arith)) i
 
 pub IsPath-from_names : (name : List ℕ) (parts : List (List ℕ)) (area : Area) → AreNames (name ∷ parts) → area_of name ≡ Some area → IsPath (record { area = area; parts = parts })
 IsPath-from_names name parts area are found =

@@ -4,7 +4,9 @@ pub mod Children
 pub mod Components
 pub mod Cuts
 pub mod Fronts
+pub mod Held
 pub mod Judged
+pub mod Keys
 pub mod Orders
 pub mod Outcomes
 pub mod Printed

@@ -1,5 +1,5 @@
 -- The key of a path: its components, each behind a byte 0, as one byte string. Keys are in the order of the paths of an area.
-use Rattle.std.specs.Prelude.{◌≡◌, ◌==◌, ◌<◌, ℕ, Bool, List, ◌∷◌, drop, length, map, if◌then◌else◌}
+use Rattle.std.specs.Prelude.{◌≡◌, ◌==◌, ◌<◌, ℕ, List, ◌∷◌, drop, if◌then◌else◌}
 use Rattle.std.specs.List.{AllByRecursion, flat_map, slice_split}
 use Rattle.mt_path.specs.AccountPath.{AccountPath, IsPath, slash}
 use Rattle.mt_path.specs.declared.area.Area.{Area}
@@ -32,7 +32,7 @@ path_at area key = record { area = area; parts = parts_of key }
 -- what a path keeps of its area and its key
 pub record IsPathKey (area : Area) (key : List ℕ) : Type 0 where
   pub path : IsPath (path_at area key)
-  pub key : IsKey key
+  pub whole : IsKey key
 
 -- a byte of a key as it stands in a text: a slash for each byte 0
 abbrev pub shown_byte : ℕ → ℕ

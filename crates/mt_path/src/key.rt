@@ -1,6 +1,6 @@
 //! The key of a path: its components, each behind a byte 0, as one byte string.
-ghost use Rattle.std.specs.Prelude.{◌≡◌, ◌<◌, ◌≤◌, ◌-◌, [], ◌∷◌, ◌++◌, drop, length, map, take, slice_index_or, IfOk, OnOk};
-ghost use Rattle.std.specs.List.{before_first};
+ghost use Rattle.std.specs.Prelude.{◌≡◌, ◌==◌, ◌≤◌, ◌-◌, [], ◌∷◌, ◌++◌, drop, length, map, position, take, slice_index_or, IfOk, OnOk};
+ghost use Rattle.std.specs.List.{position_or_len};
 ghost use Rattle.mt_path.specs.Keys.{IsKey, key_bytes, parts_of, shown_byte};
 
 use memchr::memrchr;
@@ -52,13 +52,20 @@ pub fn behind_first(key: &[u8]) -> &[u8]
 
 // The number of bytes before the first byte 0.
 fn part_len(rest: &[u8]) -> usize
-    ensures value { result ≡ length (before_first (λ b. b == 0) rest.now) }
+    ensures value { result ≡ position_or_len (λ b. b == 0) rest.now }
     ensures within { result ≤ length rest.now }
 {
-    match rest.iter().position(|b| *b == 0) {
+    match zero_at(rest) {
         Some(end) => end,
         None => rest.len(),
     }
+}
+
+// The place of the first byte 0.
+fn zero_at(bytes: &[u8]) -> Option<usize>
+    ensures { result ≡ position (λ b. b == 0) bytes.now }
+{
+    bytes.iter().position(|b| *b == 0)
 }
 
 /// The key of the components behind the first ones, so many.

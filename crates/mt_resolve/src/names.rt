@@ -29,9 +29,8 @@ pub fn job_folder(alloc: Global, job: u64) -> Result<Path, AllocError>
     requires { job < 2 ^ 62 }
     ensures { IfOk result (λ p. p ≡ job_folder job) }
 {
-    let mut parts = Vec::new(alloc);
-    parts.push(name_of_job(alloc, job)?)?;
-    Ok(Path::from_parts(Area::Jobs, parts))
+    let id = name_of_job(alloc, job)?;
+    Path::from_parts(alloc, Area::Jobs, &[id])
 }
 
 /// A name in the folder of a job: `stor`, or one of an archive.
@@ -40,10 +39,9 @@ pub fn in_job_folder(alloc: Global, job: u64, name: &str) -> Result<Path, AllocE
     requires name { IsFolderName name.now }
     ensures { IfOk result (λ p. p ≡ in_job_folder job name.now) }
 {
-    let mut parts = Vec::new(alloc);
-    parts.push(name_of_job(alloc, job)?)?;
-    parts.push(Bytes::from_slice(alloc, name.as_bytes())?)?;
-    Ok(Path::from_parts(Area::Jobs, parts))
+    let id = name_of_job(alloc, job)?;
+    let name = Bytes::from_slice(alloc, name.as_bytes())?;
+    Path::from_parts(alloc, Area::Jobs, &[id, name])
 }
 
 /// The folder of what the tasks of a job make.
@@ -73,9 +71,8 @@ pub fn anonymous_place(alloc: Global, c: &Committing, number: u64) -> Result<Pat
     requires { number < 2 ^ 62 }
     ensures { IfOk result (λ p. p ≡ anonymous_place c.now.job c.now.root c.now.phase number) }
 {
-    let mut parts = Vec::new(alloc);
-    parts.push(name_of_job(alloc, c.job)?)?;
-    parts.push(Bytes::from_slice(alloc, b"stor")?)?;
-    parts.push(output_name(alloc, c, number)?)?;
-    Ok(Path::from_parts(Area::Jobs, parts))
+    let id = name_of_job(alloc, c.job)?;
+    let stor = Bytes::from_slice(alloc, b"stor")?;
+    let name = output_name(alloc, c, number)?;
+    Path::from_parts(alloc, Area::Jobs, &[id, stor, name])
 }

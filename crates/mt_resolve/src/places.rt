@@ -1,5 +1,5 @@
 //! Where a task may make an object, and the directories above it.
-ghost use Rattle.std.specs.Prelude.{◌≡◌, ◌<◌, ◌≤◌, ◌^◌, false, length, take, IfOk, None, OnOk};
+ghost use Rattle.std.specs.Prelude.{◌≡◌, ◌<◌, ◌^◌, false, length, IfOk, None, OnOk};
 ghost use Rattle.std.specs.List.{list_any};
 ghost use Rattle.mt_model.specs.Names.{ends_in_output, is_below_stor, is_task_place, paths_above};
 ghost use Rattle.mt_model.specs.Resolve.{can_hold_object, is_object_at, with_directory, with_parents};
@@ -7,23 +7,13 @@ ghost use Rattle.mt_model.specs.Rows.{IsTree, at, is_directory, parent_refusal, 
 ghost use Rattle.mt_resolve.specs.Undo.{StaysBack};
 
 use crate::undo::{Undo, make_noted};
-use mt_base::copy_all;
 use mt_ident::{uuid_number, uuid_text};
 use mt_tree::Tree;
-use mt_types::{Area, Bytes, Duplicate, Entry, Path};
+use mt_types::{Area, Duplicate, Entry, Path};
 use std::alloc::{AllocError, Global};
 
 /// The length of the text of an identifier.
 const IDENTIFIER: usize = 36;
-
-// The first components of a path, so many.
-fn front(alloc: Global, path: &Path, count: usize) -> Result<Path, AllocError>
-    requires { count ≤ length path.now.parts }
-    ensures { IfOk result (λ p. p ≡ record { area = path.now.area; parts = take count path.now.parts }) }
-{
-    let parts = copy_all(alloc, &path.parts()[..count])?;
-    Ok(Path::from_parts(path.area(), parts))
-}
 
 // Whether a name ends in the identifier of an output.
 fn ends_in_output(name: &[u8]) -> bool
@@ -34,17 +24,17 @@ fn ends_in_output(name: &[u8]) -> bool
 }
 
 // Whether a path of the area of jobs is below `stor` of this job, under a first name that ends in no identifier of an output.
-fn is_below_stor(job: u64, parts: &[Bytes]) -> bool
+fn is_below_stor(job: u64, path: &Path) -> bool
     requires { job < 2 ^ 62 }
-    ensures { result ≡ is_below_stor job parts.now }
+    ensures { result ≡ is_below_stor job path.now.parts }
 {
-    if parts.len() < 3 {
+    if path.len() < 3 {
         return false;
     }
     let name = uuid_text(2, job);
-    parts[0].as_slice() == name.as_slice()
-        && parts[1].as_slice() == b"stor".as_slice()
-        && !ends_in_output(parts[2].as_slice())
+    path.part(0) == name.as_slice()
+        && path.part(1) == b"stor".as_slice()
+        && !ends_in_output(path.part(2))
 }
 
 // Whether the tasks of a job may make objects at a path.
@@ -54,7 +44,7 @@ fn is_task_place(job: u64, path: &Path) -> bool
 {
     match path.area() {
         Area::Stor | Area::Public => path.len() > 0,
-        Area::Jobs => is_below_stor(job, path.parts()),
+        Area::Jobs => is_below_stor(job, path),
     }
 }
 
@@ -63,7 +53,7 @@ fn has_object_above<B>(alloc: Global, tree: &Tree<B>, path: &Path) -> Result<boo
     ensures { IfOk result (λ b. b ≡ list_any (is_object_at tree.now) (paths_above path.now)) }
 {
     for count in 0..path.len() {
-        let above = front(alloc, path, count)?;
+        let above = path.front(alloc, count)?;
         if tree.object_at(&above).is_some() {
             return Ok(true);
         }
@@ -124,7 +114,7 @@ pub fn make_parents<B: Duplicate>(
     ensures back { OnOk result (StaysBack changes.old.items tree.old changes.new.items tree.new) }
 {
     for count in 0..path.len() {
-        let above = front(alloc, path, count)?;
+        let above = path.front(alloc, count)?;
         make_parent(alloc, tree, above, moment, changes)?;
     }
     Ok(())

@@ -1,16 +1,15 @@
 -- What a look-up of a kept row says of the rows.
-use Rattle.std.proofs.Common.{◌≡◌, ℕ, ◌<◌, ◌==◌, false, List, length, Option, Some, None, sym, ap, subst, ◌∙◌, arith}
+use Rattle.std.proofs.Common.{◌≡◌, ℕ, ◌<◌, List, [], ◌∷◌, length, Option, Some, None, refl, sym, ap, ◌∙◌, arith}
 use Rattle.std.specs.Prelude.{IfSome}
 use Rattle.std.specs.Map.{lookup}
 use Rattle.std.specs.Option.{option_map}
-use Rattle.std.proofs.lemmas.Bool.Decides.{nat_tests}
 use Rattle.mt_path.specs.AccountPath.{AccountPath}
 use Rattle.mt_path.specs.declared.area.Area.{Area}
 use Rattle.mt_model.specs.Rows.{Rows, is_path, at, above_refusal, children, directory_refusal, is_directory, parent_refusal}
 use Rattle.mt_model.proofs.Children.{above, parent-above, no_children}
 use Rattle.mt_tree.specs.declared.kept.KeptRow.{KeptRow}
 use Rattle.mt_tree.specs.Kept.{IsKept, parts_above, rows_of}
-use Rattle.mt_tree.specs.Keys.{Parts}
+use Rattle.mt_path.specs.Keys.{Parts}
 use Rattle.mt_tree.proofs.Grown.{number-is}
 use Rattle.mt_tree.proofs.Joined.{path_in}
 use Rattle.mt_tree.proofs.Placed.{path_is}
@@ -37,12 +36,11 @@ module _ {B : Type 0} (kept : List (AccountPath × KeptRow B)) (p : AccountPath)
 pub parent_refusal-below : {B : Type 0} (rows : Rows B) (p : AccountPath) → 0 < length p.parts → parent_refusal rows p ≡ directory_refusal (at rows (above p))
 parent_refusal-below rows p some = ap (above_refusal rows) (parent-above p some)
 
-pub parent_refusal-at : {B : Type 0} (rows : Rows B) (p : AccountPath) (area : Area) (parts : Parts) → area ≡ p.area → parts ≡ p.parts → false ≡ (length parts == 0)
-    → directory_refusal (at rows (path_in area (parts_above parts))) ≡ parent_refusal rows p
-parent_refusal-at rows p area parts area_is parts_is some =
-    let is : path_in area parts ≡ p = path_is p area parts area_is parts_is in
-    let below : 0 < length parts = positive (length parts) (sym some) in
-    ap (λ q. directory_refusal (at rows (above q))) is ∙ sym (parent_refusal-below rows p (subst (λ ps. 0 < length ps) parts_is below))
+pub parent_refusal-at : {B : Type 0} (rows : Rows B) (p : AccountPath) (area : Area) (parts : Parts) → area ≡ p.area → parts ≡ parts_above p.parts → (p.parts ≡ [] → ⊥)
+    → directory_refusal (at rows (path_in area parts)) ≡ parent_refusal rows p
+parent_refusal-at rows p area parts area_is parts_is not_root =
+    ap (λ q. directory_refusal (at rows q)) (path_is (above p) area parts area_is parts_is) ∙ sym (parent_refusal-below rows p (some p.parts not_root))
   where
-    positive : (n : ℕ) → (n == 0) ≡ false → 0 < n
-    positive n is = grind (arith, nat_tests, is)
+    some : (ps : Parts) → (ps ≡ [] → ⊥) → 0 < length ps
+    some [] not_none = absurd (not_none refl)
+    some (c ∷ ps) not_none = omega arith

@@ -1,124 +1,20 @@
--- A key tells its components, and keys have the order of the components.
-use Rattle.std.proofs.Common.{◌≡◌, ℕ, ◌+◌, ◌<◌, ◌≤◌, ◌==◌, ◌&&◌, Bool, true, false, cond, List, [], ◌∷◌, ◌++◌, length, take, drop, get_or, Some, refl, sym, ap, subst, ◌∙◌, arith, zero, suc, append-nil, length-append}
-use Rattle.std.specs.List.{AllByRecursion, filter, onto_first, slice_split}
+-- The entries of a map by their components: look-ups, changes and ranges by keys are those by components.
+use Rattle.std.proofs.Common.{◌≡◌, ℕ, ◌&&◌, Bool, true, false, cond, List, [], ◌∷◌, Some, refl, sym, ap, ◌∙◌}
+use Rattle.std.specs.List.{AllByRecursion, filter}
 use Rattle.std.specs.List.Sorted.{IsStrictlySortedBy}
 use Rattle.std.specs.BTreeMap.{insert_entry, is_at}
 use Rattle.std.specs.Map.{lookup, remove_entry, keys_of}
 use Rattle.std.specs.Option.{option_map}
-use Rattle.std.specs.Ordering.{nat_cmp, is_eq, is_le, is_lt, match_ordering, ordering_then}
-use Rattle.std.specs.Cmp.{nat_cmp_is}
-use Rattle.std.specs.Cmp.Lexicographic.{slice_cmp}
+use Rattle.std.specs.Ordering.{is_eq, is_le, is_lt, match_ordering}
 use Rattle.std.specs.declared.alloc.Global.{Global}
 use Rattle.std.specs.declared.boxed.Box.{Box}
 use Rattle.std.specs.declared.vec.Vec.{Vec}
 use Rattle.std.specs.declared.cmp.Ordering.{Ordering}
 use Rattle.std.specs.declared.cmp.Ordering.TheVariants.{Less, Equal, Greater}
-use Rattle.std.proofs.lemmas.Bool.Decides.{nat_tests}
-use Rattle.std.proofs.lemmas.List.{take-append-drop, take_more}
-use Rattle.std.proofs.lemmas.List.Concat.{flat_map-append}
-use Rattle.mt_path.specs.declared.limits.TheConstants.{LONGEST_PATH}
+use Rattle.mt_path.specs.Keys.{IsClear, IsKey, Parts, key_bytes, parts_of}
+use Rattle.mt_path.proofs.Keys.{bytes_cmp, key_order}
 use Rattle.mt_tree.specs.Kept.{changed, is_key, parts_cmp}
-use Rattle.mt_tree.specs.Keys.{AreKeys, HaveKey, IsClear, IsKey, Parts, key_bytes, opened, parts_of}
-
-abbrev pub bytes_cmp : List ℕ → List ℕ → Ordering
-bytes_cmp = slice_cmp nat_cmp
-
-then_assoc : (r s u : Ordering) → ordering_then (ordering_then r s) u ≡ ordering_then r (ordering_then s u)
-then_assoc Less s u = refl
-then_assoc Equal s u = refl
-then_assoc Greater s u = refl
-
-pub zero_below : (b : ℕ) → 0 < b → nat_cmp 0 b ≡ Less
-zero_below b h = sym (nat_cmp_is 0 b Less h)
-
-zero_above : (b : ℕ) → 0 < b → nat_cmp b 0 ≡ Greater
-zero_above b h = sym (nat_cmp_is b 0 Greater h)
-
--- after two components, what follows decides
-behind : (c d : List ℕ) (xs ys : Parts) → IsClear c → IsClear d → bytes_cmp (c ++ key_bytes xs) (d ++ key_bytes ys) ≡ ordering_then (bytes_cmp c d) (bytes_cmp (key_bytes xs) (key_bytes ys))
-behind [] [] xs ys p q = refl
-behind [] (b ∷ d) [] ys p q = refl
-behind [] (b ∷ d) (x ∷ xs) ys p q = ap (λ r. ordering_then r (bytes_cmp (x ++ key_bytes xs) (d ++ key_bytes ys))) (zero_below b q.0)
-behind (a ∷ c) [] xs [] p q = refl
-behind (a ∷ c) [] xs (y ∷ ys) p q = ap (λ r. ordering_then r (bytes_cmp (c ++ key_bytes xs) (y ++ key_bytes ys))) (zero_above a p.0)
-behind (a ∷ c) (b ∷ d) xs ys p q = ap (ordering_then (nat_cmp a b)) (behind c d xs ys p.1 q.1) ∙ sym (then_assoc (nat_cmp a b) (bytes_cmp c d) (bytes_cmp (key_bytes xs) (key_bytes ys)))
-
-same_order : (p q : Parts) → AllByRecursion IsClear p → AllByRecursion IsClear q → bytes_cmp (key_bytes p) (key_bytes q) ≡ parts_cmp p q
-same_order [] [] a b = refl
-same_order [] (d ∷ q) a b = refl
-same_order (c ∷ p) [] a b = refl
-same_order (c ∷ p) (d ∷ q) a b = behind c d p q a.0 b.0 ∙ ap (ordering_then (bytes_cmp c d)) (same_order p q a.1 b.1)
-
-abbrev pub is_zero : ℕ → Bool
-is_zero b = b == 0
-
-not_zero : (b : ℕ) → 0 < b → is_zero b ≡ false
-not_zero b some = grind (arith, nat_tests, some)
-
--- a component stands before the first byte 0
-pub split-before : (c rest : List ℕ) → IsClear c → slice_split is_zero (c ++ 0 ∷ rest) ≡ c ∷ slice_split is_zero rest
-split-before [] rest clear = refl
-split-before (b ∷ c) rest clear =
-    ap (λ t. cond t ([] ∷ slice_split is_zero (c ++ 0 ∷ rest)) (onto_first b (slice_split is_zero (c ++ 0 ∷ rest)))) (not_zero b clear.0)
-    ∙ ap (onto_first b) (split-before c rest clear.1)
-
-pub split-last : (c : List ℕ) → IsClear c → slice_split is_zero c ≡ c ∷ []
-split-last [] clear = refl
-split-last (b ∷ c) clear =
-    ap (λ t. cond t ([] ∷ slice_split is_zero c) (onto_first b (slice_split is_zero c))) (not_zero b clear.0)
-    ∙ ap (onto_first b) (split-last c clear.1)
-
-split-key : (c : List ℕ) (parts : Parts) → IsClear c → AllByRecursion IsClear parts → slice_split is_zero (c ++ key_bytes parts) ≡ c ∷ parts
-split-key c [] clear all = ap (slice_split is_zero) (append-nil c) ∙ split-last c clear
-split-key c (d ∷ parts) clear all = split-before c (d ++ key_bytes parts) clear ∙ ap (λ l. c ∷ l) (split-key d parts all.0 all.1)
-
--- the key of components has these components
-pub parts_of-key : (parts : Parts) → AllByRecursion IsClear parts → parts_of (key_bytes parts) ≡ parts
-parts_of-key [] all = refl
-parts_of-key (c ∷ parts) all = split-key c parts all.0 all.1
-
-pub IsKey-from_parts : (parts : Parts) → AllByRecursion IsClear parts → IsKey (key_bytes parts)
-IsKey-from_parts parts all =
-    let same = parts_of-key parts all in
-    record {
-      clear = subst (AllByRecursion IsClear) (sym same) all;
-      whole = ap key_bytes (sym same);
-    }
-
-order : (parts : Parts) (key : List ℕ) → AllByRecursion IsClear parts → IsKey key → bytes_cmp (key_bytes parts) key ≡ parts_cmp parts (parts_of key)
-order parts key all k = ap (bytes_cmp (key_bytes parts)) k.whole ∙ same_order parts (parts_of key) all k.clear
-
--- fewer components have a key too
-pub AllByRecursion-take : {A : Type 0} (P : A → Type 0) (n : ℕ) (xs : List A) → AllByRecursion P xs → AllByRecursion P (take n xs)
-AllByRecursion-take P zero xs all = tt
-AllByRecursion-take P (suc n) [] all = tt
-AllByRecursion-take P (suc n) (x ∷ xs) all = (all.0, AllByRecursion-take P n xs all.1)
-
-pub length-key-take : (n : ℕ) (parts : Parts) → length (key_bytes (take n parts)) ≤ length (key_bytes parts)
-length-key-take n parts =
-    omega (
-      arith,
-      ap (λ ps. length (key_bytes ps)) (sym (take-append-drop n parts)) ∙ ap length (flat_map-append (λ c. 0 ∷ c) (take n parts) (drop n parts)),
-      length-append (key_bytes (take n parts)) (key_bytes (drop n parts)),
-    )
-
--- the components so far leave room for the next
-pub key-room : (parts : Parts) (i : ℕ) (d : List ℕ) → HaveKey parts → i < length parts → length (key_bytes (take i parts)) + length (get_or parts i d) + 1 ≤ LONGEST_PATH
-key-room parts i d have within =
-    omega (
-      arith,
-      have.short,
-      length-key-take (i + 1) parts,
-      ap (λ ps. length (key_bytes ps)) (take_more parts i d within) ∙ ap length (flat_map-append (λ c. 0 ∷ c) (take i parts) (get_or parts i d ∷ [])),
-      length-append (key_bytes (take i parts)) (key_bytes (get_or parts i d ∷ [])),
-      length-append (get_or parts i d) [],
-    )
-
-pub HaveKey-take : (n : ℕ) (parts : Parts) → HaveKey parts → HaveKey (take n parts)
-HaveKey-take n parts h = record {
-  clear = AllByRecursion-take IsClear n parts h.clear;
-  short = omega (arith, length-key-take n parts, h.short);
-}
+use Rattle.mt_tree.specs.Keys.{AreKeys, opened}
 
 abbrev pub Stored : Type 0 → Type 0
 Stored X = List (Vec ℕ Global × Box X Global)
@@ -131,7 +27,7 @@ abbrev pub is_raw : Parts → Vec ℕ Global → Bool
 is_raw parts key = is_at (bytes_cmp (key_bytes parts)) key.items
 
 same_test : (parts : Parts) → AllByRecursion IsClear parts → (key : Vec ℕ Global) → IsKey key.items → is_raw parts key ≡ is_key parts (parts_of key.items)
-same_test parts all key k = ap is_eq (order parts key.items all k)
+same_test parts all key k = ap is_eq (key_order parts key.items all k)
 
 module _ {X : Type 0} (parts : Parts) (all : AllByRecursion IsClear parts) where
   pub lookup-opened : (es : Stored X) → AreKeys es → option_map (λ b. b.value) (lookup (is_raw parts) es) ≡ lookup (is_key parts) (opened es)
@@ -168,7 +64,7 @@ module _ {X : Type 0} (parts : Parts) (all : AllByRecursion IsClear parts) where
   pub from-opened : (es : Stored X) → AreKeys es → opened (filter (λ e. is_le (bytes_cmp (key_bytes parts) e.0.items) && true) es) ≡ filter (λ r. is_le (parts_cmp parts r.0)) (opened es)
   from-opened [] keys = refl
   from-opened (e ∷ es) keys =
-      ap (λ r. opened (cond (is_le r && true) (e ∷ filter (λ e. is_le (bytes_cmp (key_bytes parts) e.0.items) && true) es) (filter (λ e. is_le (bytes_cmp (key_bytes parts) e.0.items) && true) es))) (order parts e.0.items all keys.0)
+      ap (λ r. opened (cond (is_le r && true) (e ∷ filter (λ e. is_le (bytes_cmp (key_bytes parts) e.0.items) && true) es) (filter (λ e. is_le (bytes_cmp (key_bytes parts) e.0.items) && true) es))) (key_order parts e.0.items all keys.0)
       ∙ chosen (is_le (parts_cmp parts (parts_of e.0.items)))
       ∙ ap (λ l. cond (is_le (parts_cmp parts (parts_of e.0.items))) ((parts_of e.0.items, e.1.value) ∷ l) l) (from-opened es keys.1)
     where
@@ -180,7 +76,7 @@ module _ {X : Type 0} (parts : Parts) (all : AllByRecursion IsClear parts) where
   pub past-opened : (es : Stored X) → AreKeys es → opened (filter (λ e. is_lt (bytes_cmp (key_bytes parts) e.0.items) && true) es) ≡ filter (λ r. is_lt (parts_cmp parts r.0)) (opened es)
   past-opened [] keys = refl
   past-opened (e ∷ es) keys =
-      ap (λ r. opened (cond (is_lt r && true) (e ∷ filter (λ e. is_lt (bytes_cmp (key_bytes parts) e.0.items) && true) es) (filter (λ e. is_lt (bytes_cmp (key_bytes parts) e.0.items) && true) es))) (order parts e.0.items all keys.0)
+      ap (λ r. opened (cond (is_lt r && true) (e ∷ filter (λ e. is_lt (bytes_cmp (key_bytes parts) e.0.items) && true) es) (filter (λ e. is_lt (bytes_cmp (key_bytes parts) e.0.items) && true) es))) (key_order parts e.0.items all keys.0)
       ∙ chosen (is_lt (parts_cmp parts (parts_of e.0.items)))
       ∙ ap (λ l. cond (is_lt (parts_cmp parts (parts_of e.0.items))) ((parts_of e.0.items, e.1.value) ∷ l) l) (past-opened es keys.1)
     where
@@ -200,7 +96,7 @@ module _ {X : Type 0} where
   insert-opened key k v (e ∷ es) keys =
       opened_match (raw_cmp key e.0) ((key, v) ∷ e ∷ es) ((e.0, v) ∷ es) (e ∷ insert_entry raw_cmp es key v)
       ∙ ap (λ r. match_ordering r (opened ((key, v) ∷ e ∷ es)) (opened ((e.0, v) ∷ es)) (opened (e ∷ insert_entry raw_cmp es key v)))
-      (ap (λ b. bytes_cmp b e.0.items) k.whole ∙ order (parts_of key.items) e.0.items k.clear keys.0)
+      (ap (λ b. bytes_cmp b e.0.items) k.whole ∙ key_order (parts_of key.items) e.0.items k.clear keys.0)
       ∙ ap (λ l. match_ordering (parts_cmp (parts_of key.items) (parts_of e.0.items)) (opened ((key, v) ∷ e ∷ es)) (opened ((e.0, v) ∷ es)) ((parts_of e.0.items, e.1.value) ∷ l)) (insert-opened key k v es keys.1)
 
   pub keys-insert : (key : Vec ℕ Global) → IsKey key.items → (v : Box X Global) (es : Stored X) → AreKeys es → AreKeys (insert_entry raw_cmp es key v)
@@ -235,7 +131,7 @@ module _ {X : Type 0} where
   all_opened : (key : Vec ℕ Global) → IsKey key.items → (es : Stored X) → AreKeys es → AllByRecursion (λ y. raw_cmp key y ≡ Less) (keys_of es) → AllByRecursion (λ y. parts_cmp (parts_of key.items) y ≡ Less) (keys_of (opened es))
   all_opened key k [] keys a = tt
   all_opened key k (e ∷ es) keys a =
-      (sym (ap (λ b. bytes_cmp b e.0.items) k.whole ∙ order (parts_of key.items) e.0.items k.clear keys.0) ∙ a.0, all_opened key k es keys.1 a.1)
+      (sym (ap (λ b. bytes_cmp b e.0.items) k.whole ∙ key_order (parts_of key.items) e.0.items k.clear keys.0) ∙ a.0, all_opened key k es keys.1 a.1)
 
   pub sorted-opened : (es : Stored X) → AreKeys es → IsStrictlySortedBy raw_cmp (keys_of es) → IsStrictlySortedBy parts_cmp (keys_of (opened es))
   unfolding IsStrictlySortedBy

@@ -14,7 +14,6 @@ pub mod Named
 pub mod Pages
 pub mod Paging
 pub mod Placed
-pub mod PathKeys
 pub mod Places
 pub mod Restored
 pub mod Roots

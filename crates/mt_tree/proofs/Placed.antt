@@ -13,7 +13,7 @@ use Rattle.mt_model.proofs.RowLaws.{remove-allowed}
 use Rattle.mt_model.proofs.Children.{above, parent-above, some-not_root}
 use Rattle.mt_tree.specs.declared.kept.KeptRow.{KeptRow}
 use Rattle.mt_tree.specs.Kept.{changed, childless as without_children, is_key, joined, lowered, made_room, parts_above, parts_cmp, raised, rows_of, IsKept}
-use Rattle.mt_tree.specs.Keys.{Parts}
+use Rattle.mt_path.specs.Keys.{Parts}
 use Rattle.std.specs.declared.alloc.AllocError.{AllocError}
 use Rattle.mt_tree.proofs.ChildrenIn.{children-few}
 use Rattle.mt_tree.proofs.Grown.{room, rest, rows-grown, kept-grown, rows-shrunk, kept-shrunk, number-is, number-positive}
@@ -92,10 +92,10 @@ module _ {B : Type 0} (s u j : Entries (KeptRow B)) (area : Area) (path : Accoun
   few None m n le counted = tt
   few (Some row) m n le counted = omega arith
 
-  pub counted-few : IfSome (lookup (is_key (parts_above k)) (part area s u j)) (λ row. row.children ≤ length (part area s u j))
-  counted-few =
+  pub counted-few : (front : Parts) → front ≡ parts_above k → IfSome (lookup (is_key front) (part area s u j)) (λ row. row.children ≤ length (part area s u j))
+  counted-few front is =
       let d = path_in area (parts_above k) in
-      subst (λ o. IfSome o (λ row. row.children ≤ length (part area s u j))) (lookup-joined s u j area (parts_above k))
+      subst (λ o. IfSome o (λ row. row.children ≤ length (part area s u j))) (lookup-joined s u j area (parts_above k) ∙ ap (λ ps. lookup (is_key ps) (part area s u j)) (sym is))
       (few (lookup (is_path d) (joined s u j)) (length (children (rows_of (joined s u j)) d)) (length (part area s u j)) (children-few area (parts_above k) s u j) (number-is (joined s u j) kept.counts d))
 
   all_rows : rows_of (with_part area s u j inserted) ≡ with_row (rows_of (joined s u j)) path e
@@ -138,9 +138,9 @@ module _ {B : Type 0} (s u j : Entries (KeptRow B)) (area : Area) (path : Accoun
   above_is : path_in area (parts_above parts) ≡ above path
   above_is = ap above here
 
-  pub counted-positive : IfSome (lookup (is_key (parts_above parts)) (part area s u j)) (λ row. 0 < row.children)
-  counted-positive =
-      subst (λ o. IfSome o (λ row. 0 < row.children)) (ap (λ d. lookup (is_path d) (joined s u j)) (sym above_is) ∙ lookup-joined s u j area (parts_above parts))
+  pub counted-positive : (front : Parts) → front ≡ parts_above parts → IfSome (lookup (is_key front) (part area s u j)) (λ row. 0 < row.children)
+  counted-positive front is =
+      subst (λ o. IfSome o (λ row. 0 < row.children)) (ap (λ d. lookup (is_path d) (joined s u j)) (sym above_is) ∙ lookup-joined s u j area (parts_above parts) ∙ ap (λ ps. lookup (is_key ps) (part area s u j)) (sym is))
       (number-positive (joined s u j) path (above path) kept (parent-above path below) (remove-allowed (rows_of (joined s u j)) path allowed).there)
 
   module _ (new : Entries (KeptRow B)) (is : new ≡ remove_entry (is_key parts) (changed (is_key (parts_above parts)) lowered (part area s u j))) where

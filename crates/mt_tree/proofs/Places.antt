@@ -9,10 +9,10 @@ use Rattle.std.proofs.lemmas.List.{take-append-drop}
 use Rattle.std.proofs.lemmas.List.Concat.{flat_map-append}
 use Rattle.std.proofs.Math.Seq.{take-append_seam}
 use Rattle.mt_tree.specs.declared.listing.Place.TheVariants.{Outside, Child, Below}
-use Rattle.mt_tree.specs.Keys.{IsClear, IsKey, Parts, key_bytes, parts_of}
+use Rattle.mt_path.specs.Keys.{IsClear, IsKey, Parts, key_bytes, parts_of}
+use Rattle.mt_path.proofs.Keys.{is_zero, split-before}
 use Rattle.mt_tree.specs.Walk.{begins, last_of, name_in, place_in}
 use Rattle.mt_tree.proofs.Intervals.{begins_with, split_at}
-use Rattle.mt_tree.proofs.Keys.{is_zero, split-before}
 
 split_all : (c : List ℕ) (d : Parts) (rest : List ℕ) → IsClear c → slice_split is_zero (c ++ (key_bytes d ++ 0 ∷ rest)) ≡ c ∷ parts_of (key_bytes d ++ 0 ∷ rest)
 split_all c [] rest clear = split-before c rest clear

@@ -11,10 +11,10 @@ use Rattle.std.specs.declared.cmp.Ordering.{Ordering}
 use Rattle.std.proofs.lemmas.Bool.Decides.{nat_tests}
 use Rattle.std.proofs.lemmas.Cmp.{ranked}
 use Rattle.mt_tree.specs.Kept.{parts_cmp}
-use Rattle.mt_tree.specs.Keys.{IsClear, Parts}
+use Rattle.mt_path.specs.Keys.{IsClear, Parts}
+use Rattle.mt_path.proofs.Keys.{zero_below}
 use Rattle.mt_tree.specs.Walk.{below_by_one, cleared, is_from_name, is_one_below, last_of, next_name}
 use Rattle.mt_tree.proofs.Intervals.{name_cmp, below_cmp, one_below-is, later_children, from_parts}
-use Rattle.mt_tree.proofs.Keys.{zero_below}
 
 total : IsTotalOrder parts_cmp
 total = lists_total nat_list_cmp_total

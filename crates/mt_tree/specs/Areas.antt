@@ -7,7 +7,7 @@ use Rattle.mt_model.specs.Rows.{Rows}
 use Rattle.mt_tree.specs.declared.areas.Areas.{Areas}
 use Rattle.mt_tree.specs.declared.kept.KeptRow.{KeptRow}
 use Rattle.mt_tree.specs.Kept.{joined, rows_of}
-use Rattle.mt_tree.specs.Keys.{Parts}
+use Rattle.mt_path.specs.Keys.{Parts}
 
 module _ {B : Type 0} where
   -- the rows of one area

@@ -12,7 +12,7 @@ use Rattle.mt_types.specs.declared.object.Entry.{Entry}
 use Rattle.mt_types.specs.declared.object.Entry.TheVariants.{Directory}
 use Rattle.mt_model.specs.Rows.{Rows, is_path, children, IsTree}
 use Rattle.mt_tree.specs.declared.kept.KeptRow.{KeptRow}
-use Rattle.mt_tree.specs.Keys.{Parts}
+use Rattle.mt_path.specs.Keys.{Parts}
 
 -- component by component, each by its bytes
 abbrev pub parts_cmp : Parts → Parts → Ordering

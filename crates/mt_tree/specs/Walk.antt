@@ -11,7 +11,7 @@ use Rattle.mt_types.specs.declared.object.Row.{Row}
 use Rattle.mt_model.specs.Listing.{name_of}
 use Rattle.mt_model.specs.Rows.{Rows}
 use Rattle.mt_tree.specs.declared.kept.KeptRow.{KeptRow}
-use Rattle.mt_tree.specs.Keys.{Parts}
+use Rattle.mt_path.specs.Keys.{Parts}
 use Rattle.mt_tree.specs.declared.listing.Place.{Place}
 use Rattle.mt_tree.specs.declared.listing.Place.TheVariants.{Outside, Child, Below}
 

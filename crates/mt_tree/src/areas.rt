@@ -2,13 +2,13 @@
 ghost use Rattle.std.specs.Prelude.{◌≡◌, true, false, IfOk, OnOk, OnErr, Some, None, is_some, option_copied};
 ghost use Rattle.std.specs.Map.{lookup};
 ghost use Rattle.mt_path.specs.AccountPath.{AccountPath, parent_of};
+ghost use Rattle.mt_path.specs.Keys.{IsKey, path_at};
 ghost use Rattle.mt_model.specs.Rows.{at, first_rows, is_directory, is_path, remove_refusal, with_row, without_row};
 ghost use Rattle.mt_tree.specs.Areas.{all_of, kept_of, map_of};
 ghost use Rattle.mt_tree.specs.Kept.{IsKept};
-ghost use Rattle.mt_tree.specs.Keys.{HaveKey};
 
 use crate::kept::{Kept, KeptRow};
-use mt_types::{Area, Bytes, Entry, Path};
+use mt_types::{Area, Entry, Path};
 use std::alloc::{AllocError, Global};
 
 /// The rows of an account.
@@ -48,12 +48,12 @@ impl<B> Areas<B> {
         }
     }
 
-    /// The row at the path of these components.
-    pub fn get(&self, area: Area, parts: &[Bytes]) -> Option<&KeptRow<B>>
-        requires { HaveKey parts.now }
-        ensures { option_copied result ≡ lookup (is_path (record { area = area; parts = parts.now })) (kept_of self.now) }
+    /// The row at the path of this key.
+    pub fn get(&self, area: Area, key: &[u8]) -> Option<&KeptRow<B>>
+        requires { IsKey key.now }
+        ensures { option_copied result ≡ lookup (is_path (path_at area key.now)) (kept_of self.now) }
     {
-        self.kept(area).get(parts)
+        self.kept(area).get(key)
     }
 
     /// Puts an entry without children at a path, in the place of the one that stood there.
@@ -67,10 +67,12 @@ impl<B> Areas<B> {
         ensures err { OnErr result (all_of self.new ≡ all_of self.old) }
         ensures kept { IsKept (kept_of self.new) }
     {
+        let key = path.key();
+        let above = path.parent_key();
         match path.area() {
-            Area::Stor => self.stor.insert(path.parts(), entry),
-            Area::Public => self.public.insert(path.parts(), entry),
-            Area::Jobs => self.jobs.insert(path.parts(), entry),
+            Area::Stor => self.stor.insert(key, above, entry),
+            Area::Public => self.public.insert(key, above, entry),
+            Area::Jobs => self.jobs.insert(key, above, entry),
         }
     }
 
@@ -83,10 +85,12 @@ impl<B> Areas<B> {
         ensures removed { all_of self.new ≡ without_row (all_of self.old) path.now }
         ensures kept { IsKept (kept_of self.new) }
     {
+        let key = path.key();
+        let above = path.parent_key();
         match path.area() {
-            Area::Stor => self.stor.remove(path.parts()),
-            Area::Public => self.public.remove(path.parts()),
-            Area::Jobs => self.jobs.remove(path.parts()),
+            Area::Stor => self.stor.remove(key, above),
+            Area::Public => self.public.remove(key, above),
+            Area::Jobs => self.jobs.remove(key, above),
         }
     }
 }

@@ -3,10 +3,10 @@ ghost use Rattle.std.specs.Prelude.{◌≡◌, ℕ, ◌<◌, ◌≤◌, ◌^◌,
 ghost use Rattle.std.specs.Map.{lookup, remove_entry};
 ghost use Rattle.std.specs.BTreeMap.{insert_entry};
 ghost use Rattle.mt_tree.specs.Kept.{IsRootAlone, changed, childless, is_key, lowered, made_room, parts_above, parts_cmp, raised};
-ghost use Rattle.mt_tree.specs.Keys.{AreKeys, HaveKey, IsKey, opened, parts_of};
+ghost use Rattle.mt_tree.specs.Keys.{AreKeys, opened};
+ghost use Rattle.mt_path.specs.Keys.{IsKey, parts_of};
 
-use crate::key::key_of;
-use mt_types::{Bytes, Entry};
+use mt_types::Entry;
 use std::alloc::{AllocError, Global};
 use std::collections::BTreeMap;
 use std::marker::Model;
@@ -42,7 +42,8 @@ pub struct Kept<B> {
 impl<B> Model for Kept<B> {
     ghost use Rattle.std.specs.Prelude.{List};
     ghost use Rattle.mt_tree.specs.declared.kept.KeptRow.{KeptRow};
-    ghost use Rattle.mt_tree.specs.Keys.{AreKeys, Parts, opened};
+    ghost use Rattle.mt_path.specs.Keys.{Parts};
+    ghost use Rattle.mt_tree.specs.Keys.{AreKeys, opened};
 
     ghost Value = { List (Parts × KeptRow B) };
 
@@ -70,38 +71,40 @@ impl<B> Kept<B> {
         &self.rows
     }
 
-    /// The row at these components.
-    pub fn get(&self, parts: &[Bytes]) -> Option<&KeptRow<B>>
-        requires { HaveKey parts.now }
-        ensures { option_copied result ≡ lookup (is_key parts.now) self.now }
+    /// The row at a key.
+    pub fn get(&self, key: &[u8]) -> Option<&KeptRow<B>>
+        requires { IsKey key.now }
+        ensures { option_copied result ≡ lookup (is_key (parts_of key.now)) self.now }
     {
-        row_at(&self.rows, parts)
+        row_at(&self.rows, key)
     }
 
-    /// Puts an entry without children at a path, and counts it at the path above where no row stood there.
-    /// On an error all is as it was.
-    pub fn insert(&mut self, parts: &[Bytes], entry: Entry<B>) -> Result<(), AllocError>
+    /// Puts an entry without children at a key, and counts it at the key of the path above where no row stood
+    /// there. On an error all is as it was.
+    pub fn insert(&mut self, key: &[u8], above: &[u8], entry: Entry<B>) -> Result<(), AllocError>
     where
         B: Drop,
-        requires key { HaveKey parts.now }
-        requires below { 0 < length parts.now }
-        requires counted { IfSome (lookup (is_key (parts_above parts.now)) self.old) (λ row. row.children ≤ length self.old) }
-        ensures ok { OnOk result (self.new ≡ insert_entry parts_cmp (made_room parts.now self.old) parts.now (childless entry)) }
+        requires key { IsKey key.now }
+        requires above { IsKey above.now }
+        requires parent { parts_of above.now ≡ parts_above (parts_of key.now) }
+        requires counted { IfSome (lookup (is_key (parts_of above.now)) self.old) (λ row. row.children ≤ length self.old) }
+        ensures ok { OnOk result (self.new ≡ insert_entry parts_cmp (made_room (parts_of key.now) self.old) (parts_of key.now) (childless entry)) }
         ensures err { OnErr result (self.new ≡ self.old) }
     {
-        insert_kept(self.alloc, &mut self.rows, parts, entry)
+        insert_kept(self.alloc, &mut self.rows, key, above, entry)
     }
 
-    /// Removes the row at a path, and takes it from the count at the path above.
-    pub fn remove(&mut self, parts: &[Bytes])
+    /// Removes the row at a key, and takes it from the count at the key of the path above.
+    pub fn remove(&mut self, key: &[u8], above: &[u8])
     where
         B: Drop,
-        requires key { HaveKey parts.now }
-        requires below { 0 < length parts.now }
-        requires counted { IfSome (lookup (is_key (parts_above parts.now)) self.old) (λ row. 0 < row.children) }
-        ensures { self.new ≡ remove_entry (is_key parts.now) (changed (is_key (parts_above parts.now)) lowered self.old) }
+        requires key { IsKey key.now }
+        requires above { IsKey above.now }
+        requires parent { parts_of above.now ≡ parts_above (parts_of key.now) }
+        requires counted { IfSome (lookup (is_key (parts_of above.now)) self.old) (λ row. 0 < row.children) }
+        ensures { self.new ≡ remove_entry (is_key (parts_of key.now)) (changed (is_key (parts_above (parts_of key.now))) lowered self.old) }
     {
-        remove_kept(&mut self.rows, parts);
+        remove_kept(&mut self.rows, key, above);
     }
 }
 
@@ -119,41 +122,41 @@ fn root_rows<B: Drop>(alloc: Global) -> Result<Map<B>, AllocError>
     Ok(rows)
 }
 
-// The row at these components.
-fn row_at<'a, B>(rows: &'a Map<B>, parts: &[Bytes]) -> Option<&'a KeptRow<B>>
+// The row at a key.
+fn row_at<'a, B>(rows: &'a Map<B>, key: &[u8]) -> Option<&'a KeptRow<B>>
     requires keys { AreKeys rows.now.entries }
-    requires key { HaveKey parts.now }
-    ensures { option_copied result ≡ lookup (is_key parts.now) (opened rows.now.entries) }
+    requires key { IsKey key.now }
+    ensures { option_copied result ≡ lookup (is_key (parts_of key.now)) (opened rows.now.entries) }
 {
-    let key = key_of(parts);
-    match rows.get(key.as_slice()) {
+    match rows.get(key) {
         Some(row) => Some(&**row),
         None => None,
     }
 }
 
-// Puts an entry without children at a path, and counts it at the path above where no row stood there.
+// Puts an entry without children at a key, and counts it at the key above where no row stood there.
 fn insert_kept<B: Drop>(
     alloc: Global,
     rows: &mut Map<B>,
-    parts: &[Bytes],
+    key: &[u8],
+    above: &[u8],
     entry: Entry<B>,
 ) -> Result<(), AllocError>
     requires keys { AreKeys rows.old.entries }
-    requires key { HaveKey parts.now }
-    requires below { 0 < length parts.now }
-    requires counted { IfSome (lookup (is_key (parts_above parts.now)) (opened rows.old.entries)) (λ row. row.children ≤ length (opened rows.old.entries)) }
-    ensures ok { OnOk result (opened rows.new.entries ≡ insert_entry parts_cmp (made_room parts.now (opened rows.old.entries)) parts.now (childless entry)) }
+    requires key { IsKey key.now }
+    requires above { IsKey above.now }
+    requires parent { parts_of above.now ≡ parts_above (parts_of key.now) }
+    requires counted { IfSome (lookup (is_key (parts_of above.now)) (opened rows.old.entries)) (λ row. row.children ≤ length (opened rows.old.entries)) }
+    ensures ok { OnOk result (opened rows.new.entries ≡ insert_entry parts_cmp (made_room (parts_of key.now) (opened rows.old.entries)) (parts_of key.now) (childless entry)) }
     ensures err { OnErr result (opened rows.new.entries ≡ opened rows.old.entries) }
     ensures keys { AreKeys rows.new.entries }
 {
-    let key = Vec::from_slice(alloc, key_of(parts).as_slice())?;
+    let owned = Vec::from_slice(alloc, key)?;
     let row = Box::new(alloc, KeptRow { entry, children: 0 })?;
     prove!(rows.len() < usize::MAX);
-    let above = &parts[..parts.len() - 1];
-    let is_new = is_new(rows, parts);
+    let is_new = is_new(rows, key);
     raise_if(rows, above, is_new);
-    match put_row(rows, key, row) {
+    match put_row(rows, owned, row) {
         Ok(()) => Ok(()),
         Err(AllocError) => {
             lower_if(rows, above, is_new);
@@ -162,13 +165,13 @@ fn insert_kept<B: Drop>(
     }
 }
 
-// Whether no row stands at a path.
-fn is_new<B>(rows: &Map<B>, parts: &[Bytes]) -> bool
+// Whether no row stands at a key.
+fn is_new<B>(rows: &Map<B>, key: &[u8]) -> bool
     requires keys { AreKeys rows.now.entries }
-    requires key { HaveKey parts.now }
-    ensures { result ≡ not (is_some (lookup (is_key parts.now) (opened rows.now.entries))) }
+    requires key { IsKey key.now }
+    ensures { result ≡ not (is_some (lookup (is_key (parts_of key.now)) (opened rows.now.entries))) }
 {
-    row_at(rows, parts).is_none()
+    row_at(rows, key).is_none()
 }
 
 // Puts a row at its key.
@@ -185,62 +188,60 @@ fn put_row<B: Drop>(rows: &mut Map<B>, key: Vec<u8>, row: Box<KeptRow<B>>) -> Re
     }
 }
 
-// Removes the row at a path, and takes it from the count at the path above.
-fn remove_kept<B: Drop>(rows: &mut Map<B>, parts: &[Bytes])
+// Removes the row at a key, and takes it from the count at the key above.
+fn remove_kept<B: Drop>(rows: &mut Map<B>, key: &[u8], above: &[u8])
     requires keys { AreKeys rows.old.entries }
-    requires key { HaveKey parts.now }
-    requires below { 0 < length parts.now }
-    requires counted { IfSome (lookup (is_key (parts_above parts.now)) (opened rows.old.entries)) (λ row. 0 < row.children) }
-    ensures rows { opened rows.new.entries ≡ remove_entry (is_key parts.now) (changed (is_key (parts_above parts.now)) lowered (opened rows.old.entries)) }
+    requires key { IsKey key.now }
+    requires above { IsKey above.now }
+    requires parent { parts_of above.now ≡ parts_above (parts_of key.now) }
+    requires counted { IfSome (lookup (is_key (parts_of above.now)) (opened rows.old.entries)) (λ row. 0 < row.children) }
+    ensures rows { opened rows.new.entries ≡ remove_entry (is_key (parts_of key.now)) (changed (is_key (parts_above (parts_of key.now))) lowered (opened rows.old.entries)) }
     ensures keys { AreKeys rows.new.entries }
 {
-    lower_if(rows, &parts[..parts.len() - 1], true);
-    remove_row(rows, parts);
+    lower_if(rows, above, true);
+    remove_row(rows, key);
 }
 
-// Removes the row at a path.
-fn remove_row<B: Drop>(rows: &mut Map<B>, parts: &[Bytes])
+// Removes the row at a key.
+fn remove_row<B: Drop>(rows: &mut Map<B>, key: &[u8])
     requires keys { AreKeys rows.old.entries }
-    requires key { HaveKey parts.now }
-    ensures rows { opened rows.new.entries ≡ remove_entry (is_key parts.now) (opened rows.old.entries) }
+    requires key { IsKey key.now }
+    ensures rows { opened rows.new.entries ≡ remove_entry (is_key (parts_of key.now)) (opened rows.old.entries) }
     ensures keys { AreKeys rows.new.entries }
 {
-    let key = key_of(parts);
-    let _ = rows.remove(key.as_slice());
+    let _ = rows.remove(key);
 }
 
-// Counts one child more at a path, where that applies.
-fn raise_if<B>(rows: &mut Map<B>, parts: &[Bytes], applies: bool)
+// Counts one child more at a key, where that applies.
+fn raise_if<B>(rows: &mut Map<B>, key: &[u8], applies: bool)
     requires keys { AreKeys rows.old.entries }
-    requires key { HaveKey parts.now }
-    requires few { IfSome (lookup (is_key parts.now) (opened rows.old.entries)) (λ row. row.children < 2 ^ 63) }
-    ensures raised { IsTrue applies → opened rows.new.entries ≡ changed (is_key parts.now) raised (opened rows.old.entries) }
+    requires key { IsKey key.now }
+    requires few { IfSome (lookup (is_key (parts_of key.now)) (opened rows.old.entries)) (λ row. row.children < 2 ^ 63) }
+    ensures raised { IsTrue applies → opened rows.new.entries ≡ changed (is_key (parts_of key.now)) raised (opened rows.old.entries) }
     ensures unchanged { IsTrue (not applies) → rows.new.entries ≡ rows.old.entries }
     ensures keys { AreKeys rows.new.entries }
 {
     if !applies {
         return;
     }
-    let key = key_of(parts);
-    if let Some(row) = rows.get_mut(key.as_slice()) {
+    if let Some(row) = rows.get_mut(key) {
         row.children += 1;
     }
 }
 
-// Counts one child less at a path, where that applies.
-fn lower_if<B>(rows: &mut Map<B>, parts: &[Bytes], applies: bool)
+// Counts one child less at a key, where that applies.
+fn lower_if<B>(rows: &mut Map<B>, key: &[u8], applies: bool)
     requires keys { AreKeys rows.old.entries }
-    requires key { HaveKey parts.now }
-    requires counted { IsTrue applies → IfSome (lookup (is_key parts.now) (opened rows.old.entries)) (λ row. 0 < row.children) }
-    ensures lowered { IsTrue applies → opened rows.new.entries ≡ changed (is_key parts.now) lowered (opened rows.old.entries) }
+    requires key { IsKey key.now }
+    requires counted { IsTrue applies → IfSome (lookup (is_key (parts_of key.now)) (opened rows.old.entries)) (λ row. 0 < row.children) }
+    ensures lowered { IsTrue applies → opened rows.new.entries ≡ changed (is_key (parts_of key.now)) lowered (opened rows.old.entries) }
     ensures unchanged { IsTrue (not applies) → rows.new.entries ≡ rows.old.entries }
     ensures keys { AreKeys rows.new.entries }
 {
     if !applies {
         return;
     }
-    let key = key_of(parts);
-    if let Some(row) = rows.get_mut(key.as_slice()) {
+    if let Some(row) = rows.get_mut(key) {
         row.children -= 1;
     }
 }

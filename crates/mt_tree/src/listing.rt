@@ -2,15 +2,15 @@
 ghost use Rattle.std.specs.Prelude.{◌≡◌, ◌-◌, ◌==◌, ◌∷◌, [], ◌++◌, All, IfOk, OnOk, length, map, option_copied, position, take};
 ghost use Rattle.std.specs.Map.{keys_of};
 ghost use Rattle.mt_path.specs.AccountPath.{IsPath};
+ghost use Rattle.mt_path.specs.Keys.{IsKey, parts_of, path_at};
 ghost use Rattle.mt_model.specs.Rows.{row_of};
 ghost use Rattle.mt_tree.specs.Kept.{in_area, rows_of};
-ghost use Rattle.mt_tree.specs.Keys.{AreKeys, HaveKey, key_bytes, opened, parts_of};
+ghost use Rattle.mt_tree.specs.Keys.{AreKeys, opened};
 ghost use Rattle.mt_tree.specs.Walk.{cleared, lent_row, page_of, place_in, rows_after, shown};
 ghost use Rattle.mt_tree.specs.Lent.{lent};
 
 use crate::kept::{KeptRow, Map};
-use crate::key::{key_of, parts_of};
-use mt_types::{Area, Bytes, Duplicate, Entry, Path, Row};
+use mt_types::{Area, Duplicate, Entry, Path, Row};
 use std::alloc::{AllocError, Global};
 use std::cmp::Ordering;
 use std::collections::btree_map::Range;
@@ -36,18 +36,18 @@ pub enum Place {
     Below(usize),
 }
 
-/// At most `limit` children of a directory, from the first whose name is not below the marker. It walks over
+/// At most `limit` children of the directory at a key, from the first whose name is not below the marker. It walks over
 /// the rows from the marker on, and where it meets a descendant of a child, it goes on at the next name.
 pub fn page_rows<'a, B>(
     alloc: Global,
     rows: &'a Map<B>,
-    dir: &[Bytes],
+    dir: &[u8],
     marker: &[u8],
     limit: usize,
 ) -> Result<Vec<Listed<'a, B>>, AllocError>
     requires keys { AreKeys rows.now.entries }
-    requires dir { HaveKey dir.now }
-    ensures { IfOk result (λ v. map lent v.items ≡ map lent_row (page_of (opened rows.now.entries) dir.now marker.now limit)) }
+    requires dir { IsKey dir.now }
+    ensures { IfOk result (λ v. map lent v.items ≡ map lent_row (page_of (opened rows.now.entries) (parts_of dir.now) marker.now limit)) }
 {
     let front = front_of(alloc, dir)?;
     let start = start_of(alloc, &front, marker)?;
@@ -92,7 +92,7 @@ pub fn copy_rows<B: Duplicate>(
         Ordering::Less => Ok(()),
         Ordering::Greater => push_rows(alloc, area, rows.range(..), limit, out),
         Ordering::Equal => {
-            let start = Vec::from_slice(alloc, key_of(path.parts()).as_slice())?;
+            let start = Vec::from_slice(alloc, path.key())?;
             let rest = rows.range((Bound::Excluded(&start), Bound::Unbounded));
             push_rows(alloc, area, rest, limit, out)
         }
@@ -107,6 +107,7 @@ fn push_rows<B: Duplicate>(
     limit: usize,
     out: &mut Vec<Row<B>>,
 ) -> Result<(), AllocError>
+    requires keys { AreKeys rest }
     requires paths { All IsPath (keys_of (rows_of (in_area area (opened rest)))) }
     ensures { OnOk result (out.new.items ≡ out.old.items ++ map row_of (take (limit - length out.old.items) (rows_of (in_area area (opened rest.entry))))) }
 {
@@ -140,11 +141,10 @@ fn zero_at(bytes: &[u8]) -> Option<usize>
 }
 
 // What the keys below a directory begin with.
-fn front_of(alloc: Global, dir: &[Bytes]) -> Result<Vec<u8>, AllocError>
-    requires { HaveKey dir.now }
-    ensures { IfOk result (λ v. v.items ≡ key_bytes dir.now ++ 0 ∷ []) }
+fn front_of(alloc: Global, dir: &[u8]) -> Result<Vec<u8>, AllocError>
+    ensures { IfOk result (λ v. v.items ≡ dir.now ++ 0 ∷ []) }
 {
-    let mut front = Vec::from_slice(alloc, key_of(dir).as_slice())?;
+    let mut front = Vec::from_slice(alloc, dir)?;
     front.push(0)?;
     Ok(front)
 }
@@ -180,12 +180,13 @@ fn shown<B: Duplicate>(
     key: &[u8],
     entry: &Entry<B>,
 ) -> Result<Row<B>, AllocError>
-    requires { IsPath (record { area = area; parts = parts_of key.now }) }
+    requires path { IsPath (path_at area key.now) }
+    requires key { IsKey key.now }
     ensures { IfOk result (λ row. row ≡ shown area (parts_of key.now) entry.now) }
 {
-    let parts = parts_of(alloc, key)?;
+    let key = Vec::from_slice(alloc, key)?;
     Ok(Row {
-        path: Path::from_parts(area, parts),
+        path: Path::from_key(area, key),
         entry: entry.copy(alloc)?,
     })
 }

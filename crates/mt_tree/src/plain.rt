@@ -68,9 +68,8 @@ fn is_from(marker: &[u8], path: &Path) -> bool
 fn name_of(path: &Path) -> &[u8]
     ensures { result.now ≡ name_of path.now }
 {
-    let parts = path.parts();
-    match parts.last() {
-        Some(name) => name.as_slice(),
-        None => &[],
+    if path.is_root() {
+        return &[];
     }
+    path.part(path.len() - 1)
 }

@@ -2,17 +2,17 @@
 ghost use Rattle.std.specs.Prelude.{◌≡◌, All, IfOk, OnOk, OnErr, None, is_some, option_copied, length, map, take};
 ghost use Rattle.std.specs.Map.{lookup};
 ghost use Rattle.mt_path.specs.AccountPath.{IsComponent};
+ghost use Rattle.mt_path.specs.Keys.{IsKey, path_at};
 ghost use Rattle.mt_model.specs.Listing.{listing, result_set_size};
 ghost use Rattle.mt_model.specs.Rows.{at, first_rows, make_directory_refusal, object_at, parent_refusal, put_refusal, remove_refusal, row_of, source_refusal, with_row, without_row};
 ghost use Rattle.mt_types.specs.declared.object.Entry.TheVariants as entry;
 ghost use Rattle.mt_tree.specs.Answer.{answer};
-ghost use Rattle.mt_tree.specs.Keys.{HaveKey};
 ghost use Rattle.mt_tree.specs.Lent.{lent};
 ghost use Rattle.mt_tree.specs.Walk.{listed_row, rows_after};
 
 use crate::areas::Areas;
 use crate::listing::{Listed, copy_rows, page_rows};
-use mt_types::{Area, Bytes, Duplicate, Entry, Object, Path, Refusal, RowList, Sequence};
+use mt_types::{Area, Duplicate, Entry, Object, Path, Refusal, RowList, Sequence};
 use std::alloc::{AllocError, Global};
 use std::marker::Model;
 
@@ -51,7 +51,7 @@ impl<B> Tree<B> {
     pub fn get(&self, path: &Path) -> Option<&Entry<B>>
         ensures { option_copied result ≡ at self.now path.now }
     {
-        self.entry(path.area(), path.parts())
+        self.entry(path.area(), path.key())
     }
 
     /// The object at a path, if one stands there. Takes no memory, at the cost of a look-up.
@@ -103,7 +103,7 @@ impl<B> Tree<B> {
     pub fn may_remove(&self, path: &Path) -> Result<(), Refusal>
         ensures { result ≡ answer (remove_refusal self.now path.now) }
     {
-        if path.parts().is_empty() {
+        if path.is_root() {
             return Err(Refusal::RootDirectory);
         }
         if self.get(path).is_none() {
@@ -156,7 +156,7 @@ impl<B> Tree<B> {
     pub fn count(&self, dir: &Path) -> u64
         ensures { result ≡ result_set_size self.now dir.now }
     {
-        match self.areas.get(dir.area(), dir.parts()) {
+        match self.areas.get(dir.area(), dir.key()) {
             Some(row) => row.children,
             None => 0,
         }
@@ -177,7 +177,7 @@ impl<B> Tree<B> {
         ensures names { IfOk result (λ page. All (λ x. IsComponent x.name.now) page.items) }
     {
         let rows = self.areas.kept(dir.area()).map();
-        page_rows(alloc, rows, dir.parts(), marker, limit)
+        page_rows(alloc, rows, dir.key(), marker, limit)
     }
 
     /// At most `limit` rows in the order of their paths, from the first above a path, or from the first of
@@ -207,12 +207,12 @@ impl<B> Tree<B> {
         Ok(Sequence::from_vec(out))
     }
 
-    // What stands at the path of these components.
-    fn entry(&self, area: Area, parts: &[Bytes]) -> Option<&Entry<B>>
-        requires { HaveKey parts.now }
-        ensures { option_copied result ≡ at self.now (record { area = area; parts = parts.now }) }
+    // What stands at the path of this key.
+    fn entry(&self, area: Area, key: &[u8]) -> Option<&Entry<B>>
+        requires { IsKey key.now }
+        ensures { option_copied result ≡ at self.now (path_at area key.now) }
     {
-        match self.areas.get(area, parts) {
+        match self.areas.get(area, key) {
             Some(row) => Some(row.entry()),
             None => None,
         }
@@ -222,11 +222,10 @@ impl<B> Tree<B> {
     fn may_stand(&self, path: &Path) -> Result<(), Refusal>
         ensures { result ≡ answer (parent_refusal self.now path.now) }
     {
-        let parts = path.parts();
-        if parts.is_empty() {
+        if path.is_root() {
             return Ok(());
         }
-        match self.entry(path.area(), &parts[..parts.len() - 1]) {
+        match self.entry(path.area(), path.parent_key()) {
             None => Err(Refusal::DirectoryDoesNotExist),
             Some(Entry::Object(_)) => Err(Refusal::ParentNotDirectory),
             Some(Entry::Directory { .. }) => Ok(()),

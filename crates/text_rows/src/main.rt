@@ -1,12 +1,13 @@
 //! `text_rows`: the calls of the crates below that read, print and judge values, row by row. Its stored run is
 //! their table of cases.
 //!
-//! - `paths`: `mt_path`. `conditions`: `mt_cond`. `identifiers`: `mt_ident`. `numbers`: `mt_bytes`.
+//! - `paths`, `keys`: `mt_path`. `conditions`: `mt_cond`. `identifiers`: `mt_ident`. `numbers`: `mt_bytes`.
 //! - `values`: `mt_base`. Each leaves the rows that it doesn't know to the next.
 #![tactic(auto)]
 
 mod conditions;
 mod identifiers;
+mod keys;
 mod numbers;
 mod paths;
 mod values;

@@ -1,5 +1,6 @@
 //! The calls of `mt_path`.
-use crate::{conditions, put_shown};
+use crate::keys::{of_same_parts, parts_of};
+use crate::{keys, put_shown};
 use mt_path::{
     Area, Bytes, Duplicate, Path, PathError, is_component, is_login, laws, target_names,
 };
@@ -29,20 +30,24 @@ fn answer_at_path(alloc: Global, row: &Row, out: &mut String) -> Result<(), Stop
         "child" => put_child(alloc, row, out),
         "two-paths" => put_relation(alloc, row, out),
         "printed-again" => put_again(alloc, row, out),
-        _ => conditions::answer(alloc, row, out),
+        _ => keys::answer(alloc, row, out),
     }
 }
 
-// The path of a text behind the login `l`.
-fn path_at(alloc: Global, row: &Row, place: usize) -> Result<Path, Stop> {
+/// The path of a text behind the login `l`.
+pub fn path_at(alloc: Global, row: &Row, place: usize) -> Result<Path, Stop> {
     match Path::plain(alloc, "l", row.bytes(place)?) {
         Ok(path) => Ok(path),
         Err(_) => Err(Stop::NoSuchRow),
     }
 }
 
-// The text of a path behind the login `l`, or why there is none.
-fn put_path(alloc: Global, path: Result<Path, PathError>, out: &mut String) -> Result<(), Stop> {
+/// The text of a path behind the login `l`, or why there is none.
+pub fn put_path(
+    alloc: Global,
+    path: Result<Path, PathError>,
+    out: &mut String,
+) -> Result<(), Stop> {
     match &path {
         Ok(path) => Ok(put_escaped(out, path.print(alloc, "l")?.as_bytes())?),
         Err(error) => put_shown(out, error),
@@ -91,12 +96,12 @@ fn put_root(alloc: Global, row: &Row, out: &mut String) -> Result<(), Stop> {
 // What a path, its copy and the path of its parts are.
 fn put_parts(alloc: Global, row: &Row, out: &mut String) -> Result<(), Stop> {
     let path = path_at(alloc, row, 1)?;
-    let area = path.area();
-    write!(out, "{:?}, root {}, ", area, path.is_root())?;
-    put_names(out, path.parts())?;
-    out.push_str(", ")?;
+    write!(out, "{:?}, root {}, ", path.area(), path.is_root())?;
     let copy = path.copy(alloc)?;
-    put_path(alloc, Ok(Path::from_parts(area, copy.into_parts())), out)
+    let parts = parts_of(alloc, &copy)?;
+    put_names(out, &parts)?;
+    out.push_str(", ")?;
+    put_path(alloc, Ok(of_same_parts(alloc, &copy, &parts)?), out)
 }
 
 // One part of a path, and how many it has. A row may ask for parts that there are alone.

@@ -52,14 +52,20 @@ fn size_at(row: &Row, place: usize) -> Result<usize, Stop> {
     }
 }
 
+// The last component of a path; nothing of a root.
+fn put_name(path: &Path, out: &mut String) -> Result<(), AllocError> {
+    match path.len() {
+        0 => Ok(()),
+        count => put_escaped(out, path.part(count - 1)),
+    }
+}
+
 // Rows, each by the last component of its path.
 fn put_rows(rows: &[mt_tree::Row<u64>], out: &mut String) -> Result<(), AllocError> {
     let mut between = " ";
     for row in rows {
         out.push_str(between)?;
-        if let Some(name) = row.path.parts().last() {
-            put_escaped(out, name.as_slice())?;
-        }
+        put_name(&row.path, out)?;
         put_entry(&row.entry, out)?;
         between = ", ";
     }

@@ -1,4 +1,4 @@
-use Rattle.std.proofs.Common.{◌<◌, rules, sym, ap, subst, ◌∙◌, arith}
+use Rattle.std.proofs.Common.{◌<◌, rules, sym, ap, subst, arith}
 use Rattle.std.specs.Prelude.{IfSome, IsTrue}
 use Rattle.mt_tree.specs.Kept.{lowered}
 use Rattle.mt_tree.proofs.Boxed.{opened-row, untouched-opened, written-opened}
@@ -7,11 +7,11 @@ use Rattle.mt_tree.proofs.kept.lower_if.Goals as goal
 pub overflow_sub-rows : goal.overflow_sub-rows
 overflow_sub-rows g c =
     let applies : IsTrue c.args.applies = search rules in
-    let some : 0 < c.in-Some.row.now.value.children = subst (λ o. IfSome o (λ row. 0 < row.children)) (sym (opened-row c.args.parts.now c.requires.key.clear c.args.rows.now.entries c.requires.keys c.as_slice.result.now (c.as_slice.ensures.value ∙ c.key_of-key.ensures) c.in-Some.row.now c.in-Some.ensures.value)) (c.requires.counted applies) in
+    let some : 0 < c.in-Some.row.now.value.children = subst (λ o. IfSome o (λ row. 0 < row.children)) (sym (opened-row c.args.key.now c.requires.key c.args.rows.now.entries c.requires.keys c.in-Some.row.now c.in-Some.ensures.value)) (c.requires.counted applies) in
     omega (arith, some, ap (λ row. row.children) c.deref_mut.ensures.value)
 
 pub returns-in-Some-clause-lowered : goal.returns-in-Some-clause-lowered
-returns-in-Some-clause-lowered g c = λ _. (written-opened c.args.parts.now c.requires.key.clear c.args.rows.now.entries c.requires.keys c.as_slice.result.now (c.as_slice.ensures.value ∙ c.key_of-key.ensures) lowered c.in-Some.row.now c.deref_mut.result.now c.in-Some.ensures.value c.deref_mut.ensures.value _ (c.get_mut.follows.holds _).0).0
+returns-in-Some-clause-lowered g c = λ _. (written-opened c.args.key.now c.requires.key c.args.rows.now.entries c.requires.keys lowered c.in-Some.row.now c.deref_mut.result.now c.in-Some.ensures.value c.deref_mut.ensures.value _ (c.get_mut.follows.holds _).0).0
 
 pub returns-in_default-clause-lowered : goal.returns-in_default-clause-lowered
-returns-in_default-clause-lowered g c = λ _. untouched-opened c.args.parts.now c.requires.key.clear c.args.rows.now.entries c.requires.keys c.as_slice.result.now (c.as_slice.ensures.value ∙ c.key_of-key.ensures) lowered c.in_default.ensures.value _ (ap (λ m. m.entries) c.get_mut.follows.holds-at-none)
+returns-in_default-clause-lowered g c = λ _. untouched-opened c.args.key.now c.requires.key c.args.rows.now.entries c.requires.keys lowered c.in_default.ensures.value _ (ap (λ m. m.entries) c.get_mut.follows.holds-at-none)

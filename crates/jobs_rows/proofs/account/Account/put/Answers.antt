@@ -15,4 +15,4 @@ invariant_of-account c =
     let room = subst (λ (s : State Body). s.count < MOST_COMMANDS) (sym c.self.view_is) c.requires in
     let same : was.position * 4096 ≡ number_at was.position 0 = omega arith in
     let changed = c.in_ok-put_object-in-Ok.ensures.ok ∙ ap (λ fields. with_row was.tree c.args.path (entry.Object (put_object (was.position * 4096) c.body.result c.in_ok-from_str-in-Ok.field-0 None fields (1000 + was.position)))) c.new.ensures in
-    stays_put was.position was.tree was.jobs c.self.invariant room c.put_object.new.self c.args.path c.in_ok-from_str-in-Ok.field-0 c.body.result (was.position * 4096) (1000 + was.position) c.parts-parts.ensures.path same (not_refused _ (sym c.in-Ok.ensures)) changed
+    stays_put was.position was.tree was.jobs c.self.invariant room c.put_object.new.self c.args.path c.in_ok-from_str-in-Ok.field-0 c.body.result (was.position * 4096) (1000 + was.position) c.key-key.ensures.path same (not_refused _ (sym c.in-Ok.ensures)) changed

@@ -1,11 +1,18 @@
-use Rattle.std.proofs.Common.{◌≡◌, ◌<◌, ◌≤◌, ◌+◌, ◌∷◌, List, ℕ, length, take, get_or, ap, sym, ◌∙◌, subst, arith}
-use Rattle.mt_path.specs.AccountPath.{IsPath, slashed, area_name}
-use Rattle.mt_path.proofs.Fronts.{component_fits}
+use Rattle.std.proofs.Common.{◌≡◌, ◌+◌, length, rules, ap, subst, ◌∙◌, arith}
+use Rattle.mt_path.specs.AccountPath.{IsPath, area_name, local_text}
+use Rattle.mt_path.specs.Keys.{key_bytes}
+use Rattle.mt_path.proofs.Held.{length-local_text}
 use Rattle.mt_path.proofs.path.Path.text_len.Goals as goal
 
-pub overflow_add-len-in-loop-part-2 : goal.overflow_add-len-in-loop-part-2
-overflow_add-len-in-loop-part-2 c =
-    let items : c.args.self.now.parts ≡ c.deref-part-items.result.now = ap (λ p. p.parts) (sym c.self.view_is) ∙ sym c.deref-part-items.ensures.value in
-    let P : List (List ℕ) → Type 0 = λ ps. c.loop-part.part-index < length ps → length (slashed (area_name c.args.self.now.area ∷ take c.loop-part.part-index ps)) + (length (get_or ps c.loop-part.part-index c.part-item.result) + 1) ≤ 1024 in
-    let fits : P c.deref-part-items.result.now = subst P items (component_fits c.args.self.now (subst IsPath c.self.view_is c.self.invariant) c.loop-part.part-index c.part-item.result) in
-    omega (arith, fits c.loop-part-test.true, ap length c.part-item.is)
+long : (c : goal.After-len) → length c.name.result.now + 1 + c.len.result ≡ length (local_text c.args.self.now)
+long c =
+    let key : c.self.inside.key.items ≡ key_bytes c.args.self.now.parts = c.self.invariant.whole.whole ∙ ap (λ p. key_bytes p.parts) c.self.view_is in
+    let area : c.name.result.now ≡ area_name c.args.self.now.area = search rules in
+    let len : c.len.result ≡ length c.self.inside.key.items = search rules in
+    omega (arith, length-local_text c.args.self.now c.self.inside.key.items key, ap length area, len)
+
+pub returns-clause-value : goal.returns-clause-value
+returns-clause-value c = long c
+
+pub returns-clause-short : goal.returns-clause-short
+returns-clause-short c = omega (arith, long c, (subst IsPath c.self.view_is c.self.invariant.path).short)
