@@ -4,7 +4,7 @@ use Rattle.std.specs.Str.Lossy.{replacement_bytes, utf8_invalid_len, utf8_lossy,
 use Rattle.std.proofs.lemmas.Grind.{flat_map-append}
 use Rattle.std.proofs.lemmas.Str.{utf8_lossy_chunk, utf8_lossy_last_chunk}
 use Rattle.json.specs.Print.{escape, escape_byte}
-use Rattle.mt_jobtext.specs.Spelled.{shown_for}
+use Rattle.mt_jobtext.specs.Members.{shown_for}
 
 -- one run more
 pub chunk_shown : (bytes valid invalid rest : List ℕ) → bytes ≡ valid ++ (invalid ++ rest) → (length invalid ≡ 0 → length rest ≡ 0)

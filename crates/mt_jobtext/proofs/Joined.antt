@@ -24,6 +24,10 @@ use Rattle.mt_jobtext.specs.declared.status.Ending.{Ending}
 use Rattle.mt_jobtext.specs.declared.text.LiveText.{LiveText}
 use Rattle.mt_jobtext.specs.declared.text.LiveText.TheVariants as live
 
+picked : (b : Bool) → cond b live.In live.Out ≡ live.Status → live.Out ≡ live.Status
+picked true is = cc
+picked false is = is
+
 one_line : {Y : Type 0} (g : Y → List ℕ) (o : Option Y) (ys : List Y) → flat_map (λ y. line (g y)) (cons_option o ys) ≡ line_of (option_map g o) ++ flat_map (λ y. line (g y)) ys
 one_line g None ys = refl
 one_line g (Some y) ys = refl
@@ -82,6 +86,15 @@ module _ {B : Type 0} where
     outputs = has.outputs ∙ ap length (sym (feed_ended job ending (length job.document.phases)));
     tasks = has.tasks;
   }
+
+  -- only the status is shown for the status
+  pub status_asked : (job : Job B) (text : LiveText) → shown_text job text ≡ live.Status → text ≡ live.Status
+  status_asked job live.In is = is
+  status_asked job live.Out is = picked (length job.document.phases == 0) is
+  status_asked job live.Fail is = is
+  status_asked job live.Err is = is
+  status_asked job live.Tasks is = is
+  status_asked job live.Status is = refl
 
   -- ---- outputs
 

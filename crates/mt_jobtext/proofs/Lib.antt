@@ -8,3 +8,4 @@ pub mod Numbered
 pub mod Outputs
 pub mod Chunks
 pub mod Filled
+pub mod PathTexts

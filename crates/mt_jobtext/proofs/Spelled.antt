@@ -1,33 +1,11 @@
--- How joined texts are spelled, and one element more of what a loop puts.
+-- One element more of what a loop puts.
 use Rattle.std.proofs.Common.{◌≡◌, ℕ, suc, ◌+◌, ◌<◌, nat_lt, Bool, true, false, List, [], ◌∷◌, ◌++◌, map, length, get_or, take, refl, sym, ap, ◌∙◌, arith, append_assoc, append-nil}
 use Rattle.std.specs.List.{flat_map}
 use Rattle.std.proofs.lemmas.Bool.{lt-ltb}
 use Rattle.std.proofs.lemmas.Grind.{flat_map-append}
 use Rattle.std.proofs.lemmas.List.{length-take-le, take_more}
-use Rattle.json.specs.Print.{escape_byte}
 use Rattle.serde_json.specs.Written.{comma_if}
-use Rattle.mt_path.specs.AccountPath.{AccountPath, area_name, path_text, slashed}
 use Rattle.mt_jobtext.specs.Members.{listed}
-use Rattle.mt_jobtext.specs.Spelled.{spelled}
-use Rattle.mt_jobtext.specs.declared.quotes.Spelling.{Spelling}
-use Rattle.mt_jobtext.specs.declared.quotes.Spelling.TheVariants.{Plain, Escaped}
-
-pub spelled-append : (s : Spelling) (xs ys : List ℕ) → spelled s (xs ++ ys) ≡ spelled s xs ++ spelled s ys
-spelled-append Plain xs ys = refl
-spelled-append Escaped xs ys = flat_map-append escape_byte xs ys
-
-pub nothing_spelled : (s : Spelling) → spelled s [] ≡ []
-nothing_spelled Plain = refl
-nothing_spelled Escaped = refl
-
--- a path, by its parts
-pub path_spelled : (s : Spelling) (login area : List ℕ) (p : AccountPath) → area ≡ area_name p.area
-    → spelled s (47 ∷ login) ++ (spelled s (47 ∷ area) ++ spelled s (slashed p.parts)) ≡ spelled s (path_text login p)
-unfolding path_text
-path_spelled s login area p is =
-    ap (λ (l : List ℕ). spelled s (47 ∷ login) ++ l) (sym (spelled-append s (47 ∷ area) (slashed p.parts)))
-    ∙ sym (spelled-append s (47 ∷ login) ((47 ∷ area) ++ slashed p.parts))
-    ∙ ap (λ (name : List ℕ). spelled s ((47 ∷ login) ++ ((47 ∷ name) ++ slashed p.parts))) is
 
 -- one element more of a list that is gone through
 pub flat_map_more : {X : Type 0} (f : X → List ℕ) (xs : List X) (k : ℕ) (d : X) → k < length xs → flat_map f (take k xs) ++ f (get_or xs k d) ≡ flat_map f (take (k + 1) xs)

@@ -1,5 +1,6 @@
--- Parts of JSON texts: members that stand where there is something to say, and lists with commas.
+-- Parts of JSON texts: members that stand where there is something to say, lists with commas, and what is shown for bytes that are no text.
 use Rattle.std.specs.Prelude.{ℕ, Bool, true, List, [], ◌∷◌, ◌++◌, codes, decimal, Option, Some, None}
+use Rattle.std.specs.Str.Lossy.{replacement_bytes}
 use Rattle.json.specs.Print.{quoted}
 use Rattle.serde_json.specs.Written.{comma_if}
 use Rattle.mt_types.specs.declared.document.PhaseKind.{PhaseKind}
@@ -29,3 +30,8 @@ init_text (Some init) = codes ",\"init\":" ++ quoted init
 abbrev pub listed : Bool → List (List ℕ) → List ℕ
 listed later [] = []
 listed later (text ∷ texts) = comma_if later ++ (text ++ listed true texts)
+
+-- a run of bytes that are no text is shown as one U+FFFD
+abbrev pub shown_for : List ℕ → List ℕ
+shown_for [] = []
+shown_for (byte ∷ bytes) = replacement_bytes

@@ -65,6 +65,10 @@ module _ {B : Type 0} where
     pub outputs : stats.outputs ≡ length (outputs_of job)
     pub tasks : stats.tasks ≡ length job.trace
 
+  -- the same, where a text tells of it
+  abbrev pub NeedsStats : Job B → LiveText → Stats → Type 0
+  NeedsStats job text stats = text ≡ live.Status → HasStats job stats
+
   -- the outputs of a task, if it is one of this phase
   abbrev pub outputs_in : ℕ → TraceEntry B → List (Item B)
   outputs_in phase e = if e.phase == phase then items_of e.outcome else []
@@ -127,4 +131,4 @@ module _ {B : Type 0} where
   -- what its status needs is known
   pub record IsShown (s : Shown B) : Type 0 where
     pub showable : IsShowable (ended_as s.job.now s.ending)
-    pub stats : HasStats (ended_as s.job.now s.ending) s.stats
+    pub stats : NeedsStats (ended_as s.job.now s.ending) s.text s.stats

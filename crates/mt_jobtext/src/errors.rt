@@ -8,7 +8,7 @@ ghost use Rattle.mt_jobtext.specs.Members.{input_text, reducer_text};
 ghost use Rattle.mt_jobtext.specs.Windows.{Puts};
 
 use crate::names::{put_path, put_posted};
-use crate::quotes::{Spelling, put_lossy, put_number, put_quoted};
+use crate::quotes::{put_lossy, put_number, put_quoted};
 use crate::window::Window;
 use mt_base::Bytes;
 use mt_path::Path;
@@ -37,7 +37,7 @@ pub(crate) fn put_missing_line(window: &mut Window, login: &str, posted: &InputL
     ensures { Puts (line (compact_text (missing_error (posted_text login.now posted.now)))) window.old window.new }
 {
     window.put(b"{\"code\":\"ResourceNotFound\",\"input\":\"");
-    put_posted(window, Spelling::Escaped, login, posted);
+    put_posted(window, login, posted);
     window.put(b"\",\"message\":\"no such object\",\"phase\":");
     put_number(window, 0);
     window.put(b"}\n");
@@ -69,7 +69,7 @@ fn put_input(window: &mut Window, login: &str, input: Option<&Path>)
 {
     if let Some(path) = input {
         window.put(b",\"input\":\"");
-        put_path(window, Spelling::Escaped, login, path);
+        put_path(window, login, path);
         window.put(b"\"");
     }
 }

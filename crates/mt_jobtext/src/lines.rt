@@ -1,7 +1,7 @@
 //! A text of a job as a source, which is made while it is read.
 use crate::fill::{Place, fill};
 use crate::pieces::Shown;
-use crate::stats::stats_of;
+use crate::stats::needed_stats;
 use crate::status::Ending;
 use crate::text::LiveText;
 use crate::whole::{joined_len, piece_count, shown};
@@ -94,7 +94,7 @@ impl<'a, B> Lines<'a, B> {
         requires { IsShowable (ended_as job.now ending) }
         ensures { IfOk result (λ lines. lines ≡ text_of login.now (ended_as job.now ending) text) }
     {
-        let stats = stats_of(job)?;
+        let stats = needed_stats(job, text)?;
         let shown = shown(login, job, ending, stats, text);
         let count = piece_count(&shown)?;
         let left = joined_len(alloc, &shown, count)?;

@@ -1,58 +1,82 @@
 //! Names in a window.
-ghost use Rattle.std.specs.Prelude.{◌≡◌, ◌∷◌};
+ghost use Rattle.std.specs.Prelude.{◌≡◌, ◌∷◌, ◌++◌, [], length, map};
 ghost use Rattle.std.specs.List.{flat_map};
-ghost use Rattle.mt_path.specs.AccountPath.{path_text, slash, slashed};
+ghost use Rattle.json.specs.Print.{escape};
+ghost use Rattle.mt_path.specs.AccountPath.{area_name, path_text, slash};
+ghost use Rattle.mt_path.specs.Keys.{key_bytes, shown_byte};
 ghost use Rattle.mt_jobtext.specs.JobTexts.{line, posted_text};
-ghost use Rattle.mt_jobtext.specs.Spelled.{spelled};
 ghost use Rattle.mt_jobtext.specs.Windows.{Puts};
 
-use crate::quotes::{Spelling, put_spelled};
-use crate::window::Window;
-use mt_base::Bytes;
+use crate::quotes::{put_byte, put_escaped};
+use crate::window::{Window, shown_byte};
 use mt_path::Path;
 use mt_types::{InputLine, Item};
 
-/// Adds a path with its login.
-pub(crate) fn put_path(window: &mut Window, spelling: Spelling, login: &str, path: &Path)
-    ensures { Puts (spelled spelling (path_text login.now path.now)) window.old window.new }
+/// Adds a path with its login, as it stands between the quotes of JSON.
+pub(crate) fn put_path(window: &mut Window, login: &str, path: &Path)
+    ensures { Puts (escape (path_text login.now path.now)) window.old window.new }
 {
-    put_part(window, spelling, login.as_bytes());
-    put_part(window, spelling, path.area().name().as_bytes());
-    put_parts(window, spelling, path.parts());
+    put_part(window, login.as_bytes());
+    put_part(window, path.area().name().as_bytes());
+    put_key(window, path.key());
 }
 
-// Adds each part behind a slash.
-fn put_parts(window: &mut Window, spelling: Spelling, parts: &[Bytes])
-    ensures { Puts (spelled spelling (slashed parts.now)) window.old window.new }
+// Adds a slash and a part, as they stand between quotes.
+fn put_part(window: &mut Window, part: &[u8])
+    ensures { Puts (escape (slash ∷ part.now)) window.old window.new }
 {
-    for part in parts {
-        put_part(window, spelling, part.as_slice());
+    put_escaped(window, b"/");
+    put_escaped(window, part);
+}
+
+// Adds a key as it stands between quotes, with a slash for each byte 0.
+fn put_key(window: &mut Window, key: &[u8])
+    ensures { Puts (escape (map shown_byte key.now)) window.old window.new }
+{
+    for byte in key {
+        put_byte(window, shown_byte(*byte));
     }
 }
 
-// Adds a slash and a part.
-fn put_part(window: &mut Window, spelling: Spelling, part: &[u8])
-    ensures { Puts (spelled spelling (slash ∷ part.now)) window.old window.new }
-{
-    put_spelled(window, spelling, b"/");
-    put_spelled(window, spelling, part);
-}
-
-/// Adds what was posted; a path with its login.
-pub(crate) fn put_posted(window: &mut Window, spelling: Spelling, login: &str, posted: &InputLine)
-    ensures { Puts (spelled spelling (posted_text login.now posted.now)) window.old window.new }
+/// Adds what was posted, as it stands between quotes; a path with its login.
+pub(crate) fn put_posted(window: &mut Window, login: &str, posted: &InputLine)
+    ensures { Puts (escape (posted_text login.now posted.now)) window.old window.new }
 {
     match posted {
-        InputLine::Named(path) => put_path(window, spelling, login, path),
-        InputLine::Other(text) => put_spelled(window, spelling, text.as_bytes()),
+        InputLine::Named(path) => put_path(window, login, path),
+        InputLine::Other(text) => put_escaped(window, text.as_bytes()),
     }
 }
 
-/// Adds a line with a path.
+/// Adds a line with a path. One that the window passes over whole is only counted.
 pub(crate) fn put_path_line(window: &mut Window, login: &str, path: &Path)
     ensures { Puts (line (path_text login.now path.now)) window.old window.new }
 {
-    put_path(window, Spelling::Plain, login, path);
+    let len = line_len(login, path);
+    if window.passes(len) {
+        window.pass(len);
+    } else {
+        put_shown_line(window, login, path);
+    }
+}
+
+// How long the line of a path is.
+fn line_len(login: &str, path: &Path) -> usize
+    ensures { result ≡ length (line (path_text login.now path.now)) }
+{
+    let below = path.area().name().len() + path.key().len() + 3;
+    login.len() + below
+}
+
+// Adds a line with a path.
+fn put_shown_line(window: &mut Window, login: &str, path: &Path)
+    ensures { Puts (line (path_text login.now path.now)) window.old window.new }
+{
+    window.put(b"/");
+    window.put(login.as_bytes());
+    window.put(b"/");
+    window.put(path.area().name().as_bytes());
+    window.put_shown(path.key());
     window.put(b"\n");
 }
 
@@ -69,6 +93,16 @@ pub(crate) fn put_item_lines<B>(window: &mut Window, login: &str, items: &[Item<
 pub(crate) fn put_posted_line(window: &mut Window, login: &str, posted: &InputLine)
     ensures { Puts (line (posted_text login.now posted.now)) window.old window.new }
 {
-    put_posted(window, Spelling::Plain, login, posted);
+    match posted {
+        InputLine::Named(path) => put_path_line(window, login, path),
+        InputLine::Other(text) => put_text_line(window, text.as_bytes()),
+    }
+}
+
+// Adds a line with a text.
+fn put_text_line(window: &mut Window, text: &[u8])
+    ensures { Puts (line text.now) window.old window.new }
+{
+    window.put(text);
     window.put(b"\n");
 }

@@ -9,7 +9,7 @@ ghost use Rattle.mt_jobtext.specs.Members.{count_text, init_text, listed};
 ghost use Rattle.mt_jobtext.specs.Windows.{Puts};
 
 use crate::names::put_path;
-use crate::quotes::{Spelling, put_number, put_quoted};
+use crate::quotes::{put_number, put_quoted};
 use crate::window::Window;
 use mt_base::Text;
 use mt_path::Path;
@@ -113,6 +113,6 @@ fn put_asset(window: &mut Window, login: &str, asset: &Path)
     ensures { Puts (quoted (path_text login.now asset.now)) window.old window.new }
 {
     window.put(b"\"");
-    put_path(window, Spelling::Escaped, login, asset);
+    put_path(window, login, asset);
     window.put(b"\"");
 }

@@ -5,7 +5,7 @@ ghost use Rattle.std.specs.Str.Lossy.{utf8_lossy};
 ghost use Rattle.json.specs.Print.{escape, escape_byte, escape_letter, quoted};
 ghost use Rattle.serde_json.specs.Data.{boolean};
 ghost use Rattle.serde_json.specs.Written.{compact_text};
-ghost use Rattle.mt_jobtext.specs.Spelled.{shown_for, spelled};
+ghost use Rattle.mt_jobtext.specs.Members.{shown_for};
 ghost use Rattle.mt_jobtext.specs.Windows.{Puts};
 
 use crate::window::Window;
@@ -13,25 +13,6 @@ use itoa::Buffer;
 
 /// U+FFFD in UTF-8, which stands for what is no text.
 const REPLACEMENT: [u8; 3] = [0xEF, 0xBF, 0xBD];
-
-/// How a text is spelled.
-#[derive(Clone, Copy)]
-pub(crate) enum Spelling {
-    /// As it is.
-    Plain,
-    /// As it stands between quotes.
-    Escaped,
-}
-
-/// Adds a text in this spelling.
-pub(crate) fn put_spelled(window: &mut Window, spelling: Spelling, text: &[u8])
-    ensures { Puts (spelled spelling text.now) window.old window.new }
-{
-    match spelling {
-        Spelling::Plain => window.put(text),
-        Spelling::Escaped => put_escaped(window, text),
-    }
-}
 
 /// Adds a number in decimal.
 pub(crate) fn put_number(window: &mut Window, number: u64)
@@ -87,8 +68,8 @@ fn shown_for(bytes: &[u8]) -> &'static [u8]
     if bytes.is_empty() { &[] } else { &REPLACEMENT }
 }
 
-// Adds a text as it stands between quotes.
-fn put_escaped(window: &mut Window, text: &[u8])
+/// Adds a text as it stands between quotes.
+pub(crate) fn put_escaped(window: &mut Window, text: &[u8])
     ensures { Puts (escape text.now) window.old window.new }
 {
     for byte in text {
@@ -96,9 +77,9 @@ fn put_escaped(window: &mut Window, text: &[u8])
     }
 }
 
-// Adds a byte of it.
+/// Adds a byte of it.
 #[tactic(auto, unfolding(json::specs::Print::escape_byte))]
-fn put_byte(window: &mut Window, byte: u8)
+pub(crate) fn put_byte(window: &mut Window, byte: u8)
     ensures { Puts (escape_byte byte) window.old window.new }
 {
     let letter = letter(byte);

@@ -4,7 +4,7 @@ ghost use Rattle.mt_model.specs.Finished.{outputs_of};
 ghost use Rattle.mt_jobtext.specs.JobTexts as words;
 ghost use Rattle.mt_jobtext.specs.JobTexts.{errors_of, names_failed};
 ghost use Rattle.mt_jobtext.specs.Pieces as pieces;
-ghost use Rattle.mt_jobtext.specs.Pieces.{HasStats};
+ghost use Rattle.mt_jobtext.specs.Pieces.{HasStats, NeedsStats};
 
 use crate::found::{failed_path, outputs_in};
 use crate::text::LiveText;
@@ -39,8 +39,23 @@ pub fn line_count<B>(job: &Job<B>, text: LiveText) -> Result<u64, AllocError>
     }
 }
 
-/// The numbers of a job's status.
-pub(crate) fn stats_of<B>(job: &Job<B>) -> Result<Stats, AllocError>
+/// The numbers of a job's status, where a text tells them. No other text takes the time to count them.
+pub(crate) fn needed_stats<B>(job: &Job<B>, text: LiveText) -> Result<Stats, AllocError>
+    ensures { IfOk result (λ stats. NeedsStats job.now text stats) }
+{
+    match text {
+        LiveText::Status => stats_of(job),
+        _ => Ok(Stats {
+            errors: 0,
+            inputs: 0,
+            outputs: 0,
+            tasks: 0,
+        }),
+    }
+}
+
+// The numbers of a job's status.
+fn stats_of<B>(job: &Job<B>) -> Result<Stats, AllocError>
     ensures { IfOk result (λ stats. HasStats job.now stats) }
 {
     Ok(Stats {

@@ -4,11 +4,11 @@ ghost use Rattle.mt_model.specs.JobSteps.{done_at};
 ghost use Rattle.mt_jobtext.specs.Ended.{ended_as};
 ghost use Rattle.mt_jobtext.specs.JobTexts.{text_of};
 ghost use Rattle.mt_jobtext.specs.Pieces as pieces;
-ghost use Rattle.mt_jobtext.specs.Pieces.{HasStats, IsShowable, IsShown, joined_pieces, pieces_of};
+ghost use Rattle.mt_jobtext.specs.Pieces.{NeedsStats, IsShowable, IsShown, joined_pieces, pieces_of};
 
 use crate::fill::put_all;
 use crate::pieces::{Shown, first_count, tasks};
-use crate::stats::{Stats, stats_of, sum};
+use crate::stats::{Stats, needed_stats, sum};
 use crate::status::Ending;
 use crate::text::LiveText;
 use crate::window::Window;
@@ -68,7 +68,7 @@ pub fn text_len<B>(
         cancelled: job.cancelled,
         done: job.done,
     };
-    let stats = stats_of(job)?;
+    let stats = needed_stats(job, text)?;
     let shown = shown(login, job, ending, stats, text);
     let count = piece_count(&shown)?;
     joined_len(alloc, &shown, count)
@@ -85,7 +85,7 @@ fn written<B>(
     requires { IsShowable (ended_as job.now ending) }
     ensures { IfOk result (λ bytes. bytes ≡ text_of login.now (ended_as job.now ending) text) }
 {
-    let stats = stats_of(job)?;
+    let stats = needed_stats(job, text)?;
     let shown = shown(login, job, ending, stats, text);
     let count = piece_count(&shown)?;
     let len = joined_len(alloc, &shown, count)?;
@@ -101,7 +101,7 @@ pub(crate) fn shown<'a, B>(
     text: LiveText,
 ) -> Shown<'a, B>
     requires showable { IsShowable (ended_as job.now ending) }
-    requires stats { HasStats job.now stats }
+    requires stats { NeedsStats job.now text stats }
     ensures shown { IsShown result }
     ensures joined { joined_pieces result ≡ text_of login.now (ended_as job.now ending) text }
 {

@@ -1,4 +1,7 @@
 //! A part of a text that is written piece by piece.
+ghost use Rattle.std.specs.Prelude.{◌≡◌, length, map};
+ghost use Rattle.mt_path.specs.Keys.{shown_byte};
+
 use mt_base::Bytes;
 use std::alloc::{AllocError, Global};
 use std::marker::Model;
@@ -24,7 +27,8 @@ impl Model for Window {
 }
 
 impl Window {
-    ghost use Rattle.std.specs.Prelude.{◌≡◌, ◌==◌, [], min, IfOk};
+    ghost use Rattle.std.specs.Prelude.{◌≡◌, ◌≤◌, ◌-◌, ◌==◌, ◌++◌, [], length, map, min, nat_le, IfOk};
+    ghost use Rattle.mt_path.specs.Keys.{shown_byte};
     ghost use Rattle.mt_jobtext.specs.Windows.{Puts};
 
     /// A window of no bytes, which passes over all that it can count. It takes no memory.
@@ -63,16 +67,75 @@ impl Window {
     }
 
     /// Adds bytes to the text.
+    #[inline(always)]
     pub(crate) fn put(&mut self, bytes: &[u8])
+        ensures { Puts bytes.now self.old self.new }
+    {
+        if self.skip == 0 && bytes.len() <= self.limit - self.filled {
+            self.write(bytes);
+        } else {
+            self.put_part(bytes);
+        }
+    }
+
+    // The same, where some of them may stand in front of it or behind it.
+    #[inline(never)]
+    fn put_part(&mut self, bytes: &[u8])
         ensures { Puts bytes.now self.old self.new }
     {
         let passed = (bytes.len() as u64).min(self.skip);
         self.skip -= passed;
         let rest = &bytes[passed as usize..];
         let count = rest.len().min(self.limit - self.filled);
-        let end = self.filled + count;
-        self.bytes[self.filled..end].copy_from_slice(&rest[..count]);
+        self.write(&rest[..count]);
+    }
+
+    /// Adds a key to the text, with a slash for each byte 0.
+    pub(crate) fn put_shown(&mut self, key: &[u8])
+        ensures { Puts (map shown_byte key.now) self.old self.new }
+    {
+        let passed = (key.len() as u64).min(self.skip);
+        self.skip -= passed;
+        let rest = &key[passed as usize..];
+        let count = rest.len().min(self.limit - self.filled);
+        self.write_shown(&rest[..count]);
+    }
+
+    // Writes bytes behind those in it.
+    #[inline(always)]
+    fn write(&mut self, bytes: &[u8])
+        requires { length bytes.now ≤ self.old.room }
+        ensures { self.new ≡ record self.old { got = self.old.got ++ bytes.now; room = self.old.room - length bytes.now } }
+    {
+        let end = self.filled + bytes.len();
+        self.bytes[self.filled..end].copy_from_slice(bytes);
         self.filled = end;
+    }
+
+    // Writes a key behind them, with a slash for each byte 0.
+    #[inline(always)]
+    fn write_shown(&mut self, key: &[u8])
+        requires { length key.now ≤ self.old.room }
+        ensures { self.new ≡ record self.old { got = self.old.got ++ map shown_byte key.now; room = self.old.room - length key.now } }
+    {
+        let end = self.filled + key.len();
+        copy_shown(&mut self.bytes[self.filled..end], key);
+        self.filled = end;
+    }
+
+    /// Whether so many bytes of the text are passed over whole.
+    pub(crate) fn passes(&self, count: usize) -> bool
+        ensures { result ≡ nat_le count self.now.skip }
+    {
+        count as u64 <= self.skip
+    }
+
+    /// Passes over so many bytes of the text.
+    pub(crate) fn pass(&mut self, count: usize)
+        requires { count ≤ self.old.skip }
+        ensures { self.new ≡ record self.old { skip = self.old.skip - count } }
+    {
+        self.skip -= count as u64;
     }
 
     /// How many bytes are still to be passed over.
@@ -115,4 +178,22 @@ impl Window {
         bytes.truncate(filled);
         Bytes::from_vec(bytes)
     }
+}
+
+// Writes a key, with a slash for each byte 0.
+fn copy_shown(into: &mut [u8], key: &[u8])
+    requires { length into.old ≡ length key.now }
+    ensures { into.new ≡ map shown_byte key.now }
+{
+    for k in 0..key.len() {
+        into[k] = shown_byte(key[k]);
+    }
+}
+
+/// A byte of a key as it stands in a text.
+#[inline(always)]
+pub(crate) fn shown_byte(b: u8) -> u8
+    ensures { result ≡ shown_byte b }
+{
+    if b == 0 { b'/' } else { b }
 }

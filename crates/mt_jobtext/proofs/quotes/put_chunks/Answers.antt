@@ -3,7 +3,7 @@ use Rattle.std.specs.Str.Chunks.{utf8_chunks_rest}
 use Rattle.std.specs.Str.Lossy.{utf8_lossy}
 use Rattle.std.proofs.lemmas.Str.{utf8_lossy_empty}
 use Rattle.json.specs.Print.{escape}
-use Rattle.mt_jobtext.specs.Spelled.{shown_for}
+use Rattle.mt_jobtext.specs.Members.{shown_for}
 use Rattle.mt_jobtext.proofs.Chunks.{chunk_shown, escape_joined}
 use Rattle.mt_jobtext.proofs.Windows.{puts_more, puts_same}
 use Rattle.mt_jobtext.proofs.quotes.put_chunks.Goals as goal

@@ -1,6 +1,0 @@
-use Rattle.mt_jobtext.proofs.Windows.{puts_more}
-use Rattle.mt_jobtext.proofs.names.put_posted_line.Goals as goal
-
-pub returns : goal.returns
-returns c =
-    puts_more c.put_posted.ensures c.put.ensures
