@@ -27,11 +27,3 @@ module _ {K X : Type 0} (test : K → Bool) (f : X → X) where
     | true ↦ λ h. ap (λ b. cond b (Some (f e.1)) (lookup test es)) h
     | false ↦ λ h. ap (λ b. cond b (Some e.1) (lookup test (changed test f es))) h ∙ lookup-changed es
   ] refl
-
-  -- a change and its undoing
-  pub undone : (g : X → X) → ((x : X) → g (f x) ≡ x) → (es : List (K × X)) → changed test g (changed test f es) ≡ es
-  undone g back [] = refl
-  undone g back (e ∷ es) = elim (test e.0) as (λ b. test e.0 ≡ b → changed test g (cond b ((e.0, f e.1) ∷ es) (e ∷ changed test f es)) ≡ e ∷ es) [
-    | true ↦ λ h. ap (λ b. cond b ((e.0, g (f e.1)) ∷ es) ((e.0, f e.1) ∷ changed test g es)) h ∙ ap (λ x. (e.0, x) ∷ es) (back e.1)
-    | false ↦ λ h. ap (λ b. cond b ((e.0, g e.1) ∷ changed test f es) (e ∷ changed test g (changed test f es))) h ∙ ap (λ l. e ∷ l) (undone g back es)
-  ] refl

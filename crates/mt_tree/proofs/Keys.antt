@@ -1,5 +1,5 @@
 -- The entries of a map by their components: look-ups, changes and ranges by keys are those by components.
-use Rattle.std.proofs.Common.{◌≡◌, ℕ, ◌&&◌, Bool, true, false, cond, List, [], ◌∷◌, Some, refl, sym, ap, ◌∙◌}
+use Rattle.std.proofs.Common.{◌≡◌, ℕ, ◌&&◌, Bool, true, false, cond, List, [], ◌∷◌, length, Some, refl, sym, ap, ◌∙◌}
 use Rattle.std.specs.List.{AllByRecursion, filter}
 use Rattle.std.specs.List.Sorted.{IsStrictlySortedBy}
 use Rattle.std.specs.BTreeMap.{insert_entry, is_at}
@@ -11,6 +11,7 @@ use Rattle.std.specs.declared.boxed.Box.{Box}
 use Rattle.std.specs.declared.vec.Vec.{Vec}
 use Rattle.std.specs.declared.cmp.Ordering.{Ordering}
 use Rattle.std.specs.declared.cmp.Ordering.TheVariants.{Less, Equal, Greater}
+use Rattle.std.proofs.lemmas.List.{length-map}
 use Rattle.mt_path.specs.Keys.{IsClear, IsKey, Parts, key_bytes, parts_of}
 use Rattle.mt_path.proofs.Keys.{bytes_cmp, key_order}
 use Rattle.mt_tree.specs.Kept.{changed, is_key, parts_cmp}
@@ -86,6 +87,9 @@ module _ {X : Type 0} (parts : Parts) (all : AllByRecursion IsClear parts) where
       chosen false = refl
 
 module _ {X : Type 0} where
+  pub length-opened : (es : Stored X) → length (opened es) ≡ length es
+  length-opened es = length-map es (λ e. (parts_of e.0.items, e.1.value))
+
   opened_match : (r : Ordering) (a b c : Stored X) → opened (match_ordering r a b c) ≡ match_ordering r (opened a) (opened b) (opened c)
   opened_match Less a b c = refl
   opened_match Equal a b c = refl

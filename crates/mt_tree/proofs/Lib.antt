@@ -15,7 +15,7 @@ pub mod Pages
 pub mod Paging
 pub mod Placed
 pub mod Places
-pub mod Restored
+pub mod Raised
 pub mod Roots
 pub mod Scans
 pub mod Shown

@@ -104,6 +104,11 @@ module _ {B : Type 0} (s u j : Entries (KeptRow B)) (area : Area) (path : Accoun
       ∙ rows-grown (joined s u j) (path_in area k) (above (path_in area k)) e
       ∙ ap (λ p. with_row (rows_of (joined s u j)) p e) here
 
+  pub below-root : is_directory (at (rows_of (joined s u j)) path) ≡ false → (parts : Parts) → path.parts ≡ parts → 0 < length parts
+  below-root free [] none =
+      let root : is_directory (at (rows_of (joined s u j)) path) ≡ true = ap (λ parts. is_directory (at (rows_of (joined s u j)) (path_in path.area parts))) none ∙ kept.tree.roots path.area in cc
+  below-root free (part ∷ parts) none = omega arith
+
   module _ (result : Result (Unit {0}) AllocError) (new : Entries (KeptRow B)) (ok : OnOk result (new ≡ inserted)) where
     rows_case : (r : Result (Unit {0}) AllocError) → OnOk r (new ≡ inserted) → OnOk r (rows_of (with_part area s u j new) ≡ with_row (rows_of (joined s u j)) path e)
     rows_case (Ok x) is = ap (λ es. rows_of (with_part area s u j es)) is ∙ all_rows
@@ -122,13 +127,8 @@ module _ {B : Type 0} (s u j : Entries (KeptRow B)) (area : Area) (path : Accoun
     kept_case (Ok x) is old more = subst (λ es. IsKept (with_part area s u j es)) (sym is) more
     kept_case (Err x) is old more = subst (λ es. IsKept (with_part area s u j es)) (sym old) (subst IsKept (sym (same-with s u j area)) kept)
 
-    not_a_root : is_directory (at (rows_of (joined s u j)) path) ≡ false → (parts : Parts) → path.parts ≡ parts → 0 < length parts
-    not_a_root free [] none =
-        let root : is_directory (at (rows_of (joined s u j)) path) ≡ true = ap (λ parts. is_directory (at (rows_of (joined s u j)) (path_in path.area parts))) none ∙ kept.tree.roots path.area in cc
-    not_a_root free (part ∷ parts) none = omega arith
-
     pub inserted-kept : OnErr result (new ≡ part area s u j) → IsPath path → ((d : AccountPath) → parent_of path ≡ Some d → is_directory (at (rows_of (joined s u j)) d) ≡ true) → is_directory (at (rows_of (joined s u j)) path) ≡ false → IsKept (with_part area s u j new)
-    inserted-kept err is parent free = kept_case result ok err (all_kept is (not_a_root free path.parts refl) parent free)
+    inserted-kept err is parent free = kept_case result ok err (all_kept is (below-root free path.parts refl) parent free)
 
 -- a removal from the map of an area
 module _ {B : Type 0} (s u j : Entries (KeptRow B)) (area : Area) (path : AccountPath) (parts : Parts) (here : path_in area parts ≡ path) (kept : IsKept (joined s u j)) (allowed : remove_refusal (rows_of (joined s u j)) path ≡ None) where

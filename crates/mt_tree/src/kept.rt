@@ -87,6 +87,7 @@ impl<B> Kept<B> {
         requires key { IsKey key.now }
         requires above { IsKey above.now }
         requires parent { parts_of above.now ≡ parts_above (parts_of key.now) }
+        requires below { 0 < length (parts_of key.now) }
         requires counted { IfSome (lookup (is_key (parts_of above.now)) self.old) (λ row. row.children ≤ length self.old) }
         ensures ok { OnOk result (self.new ≡ insert_entry parts_cmp (made_room (parts_of key.now) self.old) (parts_of key.now) (childless entry)) }
         ensures err { OnErr result (self.new ≡ self.old) }
@@ -146,6 +147,7 @@ fn insert_kept<B: Drop>(
     requires key { IsKey key.now }
     requires above { IsKey above.now }
     requires parent { parts_of above.now ≡ parts_above (parts_of key.now) }
+    requires below { 0 < length (parts_of key.now) }
     requires counted { IfSome (lookup (is_key (parts_of above.now)) (opened rows.old.entries)) (λ row. row.children ≤ length (opened rows.old.entries)) }
     ensures ok { OnOk result (opened rows.new.entries ≡ insert_entry parts_cmp (made_room (parts_of key.now) (opened rows.old.entries)) (parts_of key.now) (childless entry)) }
     ensures err { OnErr result (opened rows.new.entries ≡ opened rows.old.entries) }
@@ -154,36 +156,26 @@ fn insert_kept<B: Drop>(
     let owned = Vec::from_slice(alloc, key)?;
     let row = Box::new(alloc, KeptRow { entry, children: 0 })?;
     prove!(rows.len() < usize::MAX);
-    let is_new = is_new(rows, key);
+    let is_new = put_row(rows, owned, row)?;
     raise_if(rows, above, is_new);
-    match put_row(rows, owned, row) {
-        Ok(()) => Ok(()),
-        Err(AllocError) => {
-            lower_if(rows, above, is_new);
-            Err(AllocError)
-        }
-    }
+    Ok(())
 }
 
-// Whether no row stands at a key.
-fn is_new<B>(rows: &Map<B>, key: &[u8]) -> bool
-    requires keys { AreKeys rows.now.entries }
-    requires key { IsKey key.now }
-    ensures { result ≡ not (is_some (lookup (is_key (parts_of key.now)) (opened rows.now.entries))) }
-{
-    row_at(rows, key).is_none()
-}
-
-// Puts a row at its key.
-fn put_row<B: Drop>(rows: &mut Map<B>, key: Vec<u8>, row: Box<KeptRow<B>>) -> Result<(), AllocError>
+// Puts a row at its key. Whether none stood there.
+fn put_row<B: Drop>(
+    rows: &mut Map<B>,
+    key: Vec<u8>,
+    row: Box<KeptRow<B>>,
+) -> Result<bool, AllocError>
     requires keys { AreKeys rows.old.entries }
     requires key { IsKey key.items }
     ensures ok { OnOk result (opened rows.new.entries ≡ insert_entry parts_cmp (opened rows.old.entries) (parts_of key.items) row.value) }
+    ensures first { IfOk result (λ is_new. is_new ≡ not (is_some (lookup (is_key (parts_of key.items)) (opened rows.old.entries)))) }
     ensures err { OnErr result (rows.new.entries ≡ rows.old.entries) }
     ensures keys { AreKeys rows.new.entries }
 {
     match rows.insert(key, row) {
-        Ok(_) => Ok(()),
+        Ok(old) => Ok(old.is_none()),
         Err(_) => Err(AllocError),
     }
 }
@@ -198,7 +190,7 @@ fn remove_kept<B: Drop>(rows: &mut Map<B>, key: &[u8], above: &[u8])
     ensures rows { opened rows.new.entries ≡ remove_entry (is_key (parts_of key.now)) (changed (is_key (parts_above (parts_of key.now))) lowered (opened rows.old.entries)) }
     ensures keys { AreKeys rows.new.entries }
 {
-    lower_if(rows, above, true);
+    lower(rows, above);
     remove_row(rows, key);
 }
 
@@ -229,18 +221,14 @@ fn raise_if<B>(rows: &mut Map<B>, key: &[u8], applies: bool)
     }
 }
 
-// Counts one child less at a key, where that applies.
-fn lower_if<B>(rows: &mut Map<B>, key: &[u8], applies: bool)
+// Counts one child less at a key.
+fn lower<B>(rows: &mut Map<B>, key: &[u8])
     requires keys { AreKeys rows.old.entries }
     requires key { IsKey key.now }
-    requires counted { IsTrue applies → IfSome (lookup (is_key (parts_of key.now)) (opened rows.old.entries)) (λ row. 0 < row.children) }
-    ensures lowered { IsTrue applies → opened rows.new.entries ≡ changed (is_key (parts_of key.now)) lowered (opened rows.old.entries) }
-    ensures unchanged { IsTrue (not applies) → rows.new.entries ≡ rows.old.entries }
+    requires counted { IfSome (lookup (is_key (parts_of key.now)) (opened rows.old.entries)) (λ row. 0 < row.children) }
+    ensures lowered { opened rows.new.entries ≡ changed (is_key (parts_of key.now)) lowered (opened rows.old.entries) }
     ensures keys { AreKeys rows.new.entries }
 {
-    if !applies {
-        return;
-    }
     if let Some(row) = rows.get_mut(key) {
         row.children -= 1;
     }

@@ -3,11 +3,16 @@ use Rattle.std.proofs.Common.{sym, ap, ◌∙◌}
 use Rattle.mt_path.specs.Keys.{parts_of}
 use Rattle.mt_path.specs.declared.area.Area.TheVariants.{Stor, Public, Jobs}
 use Rattle.mt_tree.specs.Kept.{parts_above}
-use Rattle.mt_tree.proofs.Placed.{counted-few, inserted-rows, inserted-kept, path_is}
+use Rattle.mt_tree.proofs.Placed.{below-root, counted-few, inserted-rows, inserted-kept, path_is}
 use Rattle.mt_tree.proofs.areas.Areas.insert.Goals as goal
 
 pub insert-requires-clause-parent : goal.insert-requires-clause-parent
 insert-requires-clause-parent g c = c.parent_key-above.ensures.parts ∙ sym (ap parts_above c.key-key.ensures.parts)
+
+pub insert-requires-clause-below : goal.insert-requires-clause-below
+insert-requires-clause-below g c =
+    below-root c.args.self.now.stor c.args.self.now.public c.args.self.now.jobs Stor c.args.path c.args.entry (parts_of c.key-key.result.now) (path_is c.args.path Stor (parts_of c.key-key.result.now) c.in-Stor.ensures c.key-key.ensures.parts) c.requires.kept
+    c.requires.free (parts_of c.key-key.result.now) (sym c.key-key.ensures.parts)
 
 pub insert-requires-clause-counted : goal.insert-requires-clause-counted
 insert-requires-clause-counted g c =
@@ -27,6 +32,11 @@ returns-in-Stor-clause-kept g c =
 pub insert-requires-in-Public-clause-parent : goal.insert-requires-in-Public-clause-parent
 insert-requires-in-Public-clause-parent g c = c.parent_key-above.ensures.parts ∙ sym (ap parts_above c.key-key.ensures.parts)
 
+pub insert-requires-in-Public-clause-below : goal.insert-requires-in-Public-clause-below
+insert-requires-in-Public-clause-below g c =
+    below-root c.args.self.now.stor c.args.self.now.public c.args.self.now.jobs Public c.args.path c.args.entry (parts_of c.key-key.result.now) (path_is c.args.path Public (parts_of c.key-key.result.now) c.in-Public.ensures c.key-key.ensures.parts) c.requires.kept
+    c.requires.free (parts_of c.key-key.result.now) (sym c.key-key.ensures.parts)
+
 pub insert-requires-in-Public-clause-counted : goal.insert-requires-in-Public-clause-counted
 insert-requires-in-Public-clause-counted g c =
     counted-few c.args.self.now.stor c.args.self.now.public c.args.self.now.jobs Public c.args.path c.args.entry (parts_of c.key-key.result.now) (path_is c.args.path Public (parts_of c.key-key.result.now) c.in-Public.ensures c.key-key.ensures.parts) c.requires.kept
@@ -44,6 +54,11 @@ returns-in-Public-clause-kept g c =
 
 pub insert-requires-in-Jobs-clause-parent : goal.insert-requires-in-Jobs-clause-parent
 insert-requires-in-Jobs-clause-parent g c = c.parent_key-above.ensures.parts ∙ sym (ap parts_above c.key-key.ensures.parts)
+
+pub insert-requires-in-Jobs-clause-below : goal.insert-requires-in-Jobs-clause-below
+insert-requires-in-Jobs-clause-below g c =
+    below-root c.args.self.now.stor c.args.self.now.public c.args.self.now.jobs Jobs c.args.path c.args.entry (parts_of c.key-key.result.now) (path_is c.args.path Jobs (parts_of c.key-key.result.now) c.in-Jobs.ensures c.key-key.ensures.parts) c.requires.kept
+    c.requires.free (parts_of c.key-key.result.now) (sym c.key-key.ensures.parts)
 
 pub insert-requires-in-Jobs-clause-counted : goal.insert-requires-in-Jobs-clause-counted
 insert-requires-in-Jobs-clause-counted g c =
