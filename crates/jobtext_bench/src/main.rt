@@ -65,10 +65,9 @@ fn child(alloc: Global, path: &Path, name: &[u8]) -> Result<Path, AllocError> {
     }
 }
 
-// A task that made one output.
+// A task that made one output, in no more memory than that takes.
 fn entry(alloc: Global, k: u32) -> Result<TraceEntry<Body>, AllocError> {
-    let mut items = Sequence::new(alloc);
-    items.push(Item {
+    let item = Item {
         name: name(alloc, k)?,
         root: Text::from_str(alloc, "a")?,
         body: Body {
@@ -77,12 +76,16 @@ fn entry(alloc: Global, k: u32) -> Result<TraceEntry<Body>, AllocError> {
             md5: [0; 16],
         },
         reducer: None,
-    })?;
+    };
+    let mut items = Vec::with_capacity(alloc, 1)?;
+    if items.push(item).is_err() {
+        return Err(AllocError);
+    }
     Ok(TraceEntry {
         phase: 0,
         place: u64::from(k),
         position: u64::from(k),
-        outcome: Outcome::Good(items),
+        outcome: Outcome::Good(Sequence::from_vec(items)),
     })
 }
 

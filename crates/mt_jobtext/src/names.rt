@@ -1,9 +1,9 @@
 //! Names in a window.
-ghost use Rattle.std.specs.Prelude.{◌≡◌, ◌∷◌, ◌++◌, [], length, map};
+ghost use Rattle.std.specs.Prelude.{◌≡◌, ◌∷◌, length, map};
 ghost use Rattle.std.specs.List.{flat_map};
 ghost use Rattle.json.specs.Print.{escape};
-ghost use Rattle.mt_path.specs.AccountPath.{area_name, path_text, slash};
-ghost use Rattle.mt_path.specs.Keys.{key_bytes, shown_byte};
+ghost use Rattle.mt_path.specs.AccountPath.{path_text, slash};
+ghost use Rattle.mt_path.specs.Keys.{shown_byte};
 ghost use Rattle.mt_jobtext.specs.JobTexts.{line, posted_text};
 ghost use Rattle.mt_jobtext.specs.Windows.{Puts};
 
