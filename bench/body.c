@@ -1,5 +1,5 @@
 // Bodies by hand: the calls and the digests of the program body_bench, over a new log. Both take the same words, print the same line
-// and leave the same bytes. usage: body store|copy FOLDER. With -DPLAIN its MD5 is written out below, else it is OpenSSL's.
+// and leave the same bytes. usage: body store|copy FOLDER. With -DPLAIN its MD5 is the kit's, written out below, else it is OpenSSL's.
 #define _GNU_SOURCE
 #define OPENSSL_SUPPRESS_DEPRECATED // the plain calls of MD5 cost least
 #include <arpa/inet.h>
@@ -12,55 +12,95 @@
 #include <sys/stat.h>
 #include <unistd.h>
 #ifdef PLAIN
-#include <math.h>
 
+// The kit's MD5: the same functions, and the same sums in the same order.
 typedef struct {
     uint32_t h[4];
     uint8_t buffer[64];
     uint64_t total;
 } MD5_CTX;
 
-static uint32_t constants[64];
-
 static void MD5_Init(MD5_CTX *m) {
     static const uint32_t first[4] = {0x67452301, 0xEFCDAB89, 0x98BADCFE, 0x10325476};
     memcpy(m->h, first, 16);
     m->total = 0;
-    for (int i = 0; i < 64; i++) constants[i] = (uint32_t)(fabs(sin(i + 1)) * 4294967296.0);
 }
 
-#define STEP(f, a, b, c, d, k, t, s)                 \
-    a += (f) + w[k] + constants[t];                  \
-    a = b + (a << s | a >> (32 - s));
-#define FOUR(F, i, k0, k1, k2, k3, s0, s1, s2, s3)   \
-    STEP(F(b, c, d), a, b, c, d, k0, i, s0)          \
-    STEP(F(a, b, c), d, a, b, c, k1, i + 1, s1)      \
-    STEP(F(d, a, b), c, d, a, b, k2, i + 2, s2)      \
-    STEP(F(c, d, a), b, c, d, a, k3, i + 3, s3)
-#define F1(x, y, z) (z ^ (x & (y ^ z)))
-#define F2(x, y, z) ((x & z) | (y & ~z))
-#define F3(x, y, z) (x ^ y ^ z)
-#define F4(x, y, z) (y ^ (x | ~z))
+#define F(x, y, z) ((x & y) | (~x & z))
+#define G(x, y, z) ((x & z) | (y & ~z))
+#define H(x, y, z) (x ^ y ^ z)
+#define I(x, y, z) (y ^ (x | ~z))
+#define STEP(f, i, k, s)                            \
+    sum = a + w[i] + k + f(b, c, d);                \
+    a = d, d = c, c = b, b += sum << s | sum >> (32 - s);
 
 static void compress(uint32_t *h, const uint8_t *block) {
-    uint32_t w[16], a = h[0], b = h[1], c = h[2], d = h[3];
+    uint32_t w[16], sum, a = h[0], b = h[1], c = h[2], d = h[3];
     memcpy(w, block, 64);
-    FOUR(F1, 0, 0, 1, 2, 3, 7, 12, 17, 22)
-    FOUR(F1, 4, 4, 5, 6, 7, 7, 12, 17, 22)
-    FOUR(F1, 8, 8, 9, 10, 11, 7, 12, 17, 22)
-    FOUR(F1, 12, 12, 13, 14, 15, 7, 12, 17, 22)
-    FOUR(F2, 16, 1, 6, 11, 0, 5, 9, 14, 20)
-    FOUR(F2, 20, 5, 10, 15, 4, 5, 9, 14, 20)
-    FOUR(F2, 24, 9, 14, 3, 8, 5, 9, 14, 20)
-    FOUR(F2, 28, 13, 2, 7, 12, 5, 9, 14, 20)
-    FOUR(F3, 32, 5, 8, 11, 14, 4, 11, 16, 23)
-    FOUR(F3, 36, 1, 4, 7, 10, 4, 11, 16, 23)
-    FOUR(F3, 40, 13, 0, 3, 6, 4, 11, 16, 23)
-    FOUR(F3, 44, 9, 12, 15, 2, 4, 11, 16, 23)
-    FOUR(F4, 48, 0, 7, 14, 5, 6, 10, 15, 21)
-    FOUR(F4, 52, 12, 3, 10, 1, 6, 10, 15, 21)
-    FOUR(F4, 56, 8, 15, 6, 13, 6, 10, 15, 21)
-    FOUR(F4, 60, 4, 11, 2, 9, 6, 10, 15, 21)
+    STEP(F, 0, 0xd76aa478, 7)
+    STEP(F, 1, 0xe8c7b756, 12)
+    STEP(F, 2, 0x242070db, 17)
+    STEP(F, 3, 0xc1bdceee, 22)
+    STEP(F, 4, 0xf57c0faf, 7)
+    STEP(F, 5, 0x4787c62a, 12)
+    STEP(F, 6, 0xa8304613, 17)
+    STEP(F, 7, 0xfd469501, 22)
+    STEP(F, 8, 0x698098d8, 7)
+    STEP(F, 9, 0x8b44f7af, 12)
+    STEP(F, 10, 0xffff5bb1, 17)
+    STEP(F, 11, 0x895cd7be, 22)
+    STEP(F, 12, 0x6b901122, 7)
+    STEP(F, 13, 0xfd987193, 12)
+    STEP(F, 14, 0xa679438e, 17)
+    STEP(F, 15, 0x49b40821, 22)
+    STEP(G, 1, 0xf61e2562, 5)
+    STEP(G, 6, 0xc040b340, 9)
+    STEP(G, 11, 0x265e5a51, 14)
+    STEP(G, 0, 0xe9b6c7aa, 20)
+    STEP(G, 5, 0xd62f105d, 5)
+    STEP(G, 10, 0x02441453, 9)
+    STEP(G, 15, 0xd8a1e681, 14)
+    STEP(G, 4, 0xe7d3fbc8, 20)
+    STEP(G, 9, 0x21e1cde6, 5)
+    STEP(G, 14, 0xc33707d6, 9)
+    STEP(G, 3, 0xf4d50d87, 14)
+    STEP(G, 8, 0x455a14ed, 20)
+    STEP(G, 13, 0xa9e3e905, 5)
+    STEP(G, 2, 0xfcefa3f8, 9)
+    STEP(G, 7, 0x676f02d9, 14)
+    STEP(G, 12, 0x8d2a4c8a, 20)
+    STEP(H, 5, 0xfffa3942, 4)
+    STEP(H, 8, 0x8771f681, 11)
+    STEP(H, 11, 0x6d9d6122, 16)
+    STEP(H, 14, 0xfde5380c, 23)
+    STEP(H, 1, 0xa4beea44, 4)
+    STEP(H, 4, 0x4bdecfa9, 11)
+    STEP(H, 7, 0xf6bb4b60, 16)
+    STEP(H, 10, 0xbebfbc70, 23)
+    STEP(H, 13, 0x289b7ec6, 4)
+    STEP(H, 0, 0xeaa127fa, 11)
+    STEP(H, 3, 0xd4ef3085, 16)
+    STEP(H, 6, 0x04881d05, 23)
+    STEP(H, 9, 0xd9d4d039, 4)
+    STEP(H, 12, 0xe6db99e5, 11)
+    STEP(H, 15, 0x1fa27cf8, 16)
+    STEP(H, 2, 0xc4ac5665, 23)
+    STEP(I, 0, 0xf4292244, 6)
+    STEP(I, 7, 0x432aff97, 10)
+    STEP(I, 14, 0xab9423a7, 15)
+    STEP(I, 5, 0xfc93a039, 21)
+    STEP(I, 12, 0x655b59c3, 6)
+    STEP(I, 3, 0x8f0ccc92, 10)
+    STEP(I, 10, 0xffeff47d, 15)
+    STEP(I, 1, 0x85845dd1, 21)
+    STEP(I, 8, 0x6fa87e4f, 6)
+    STEP(I, 15, 0xfe2ce6e0, 10)
+    STEP(I, 6, 0xa3014314, 15)
+    STEP(I, 13, 0x4e0811a1, 21)
+    STEP(I, 4, 0xf7537e82, 6)
+    STEP(I, 11, 0xbd3af235, 10)
+    STEP(I, 2, 0x2ad7d2bb, 15)
+    STEP(I, 9, 0xeb86d391, 21)
     h[0] += a, h[1] += b, h[2] += c, h[3] += d;
 }
 

@@ -176,3 +176,12 @@ module _ {B : Type 0} where
   pub pieces_joined : (s : Shown B) (text : LiveText) → s.text ≡ shown_text s.job.now text → joined_pieces s ≡ text_of s.login.now (ended_as s.job.now s.ending) text
   unfolding pieces_of
   pieces_joined s text is = ap (pieces s.login.now s.job.now s.ending) is ∙ by_text s.login.now s.job.now s.ending text
+
+  -- the lines of inputs, and of outputs
+  pub inputs_are : (s : Shown B) → s.text ≡ live.In → joined_pieces s ≡ flat_map (λ (i : Item B). line (path_text s.login.now i.name)) s.job.now.inputs
+  unfolding pieces_of
+  inputs_are s is = ap (pieces s.login.now s.job.now s.ending) is ∙ whole (map (item_line s.login.now) s.job.now.inputs) ∙ joined_map (item_line s.login.now) s.job.now.inputs
+
+  pub outputs_are : (s : Shown B) → s.text ≡ live.Out → joined_pieces s ≡ flat_map (output_lines s.login.now (length s.job.now.document.phases)) s.job.now.trace
+  unfolding pieces_of
+  outputs_are s is = ap (pieces s.login.now s.job.now s.ending) is ∙ joined_map (output_lines s.login.now (length s.job.now.document.phases)) s.job.now.trace

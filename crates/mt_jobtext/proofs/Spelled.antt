@@ -1,5 +1,5 @@
 -- One element more of what a loop puts.
-use Rattle.std.proofs.Common.{◌≡◌, ℕ, suc, ◌+◌, ◌<◌, nat_lt, Bool, true, false, List, [], ◌∷◌, ◌++◌, map, length, get_or, take, refl, sym, ap, ◌∙◌, arith, append_assoc, append-nil}
+use Rattle.std.proofs.Common.{◌≡◌, ℕ, suc, ◌+◌, ◌<◌, nat_lt, Bool, true, false, List, [], ◌∷◌, ◌++◌, map, length, get_or, take, refl, sym, ap, ◌∙◌, arith, append_assoc, append-nil, length-append}
 use Rattle.std.specs.List.{flat_map}
 use Rattle.std.proofs.lemmas.Bool.{lt-ltb}
 use Rattle.std.proofs.lemmas.Grind.{flat_map-append}
@@ -13,6 +13,13 @@ flat_map_more f xs k d within =
     sym (ap (flat_map f) (take_more xs k d within)
     ∙ flat_map-append f (take k xs) (get_or xs k d ∷ [])
     ∙ ap (λ (l : List ℕ). flat_map f (take k xs) ++ l) (append-nil (f (get_or xs k d))))
+
+-- and how long it is
+pub length_more : {X : Type 0} (f : X → List ℕ) (xs : List X) (k : ℕ) (x : X) → k < length xs → x ≡ get_or xs k x → length (flat_map f (take k xs)) + length (f x) ≡ length (flat_map f (take (k + 1) xs))
+length_more f xs k x within is =
+    sym (length-append (flat_map f (take k xs)) (f x))
+    ∙ ap (λ y. length (flat_map f (take k xs) ++ f y)) is
+    ∙ ap length (flat_map_more f xs k x within)
 
 map_more : {X : Type 0} (f : X → List ℕ) (xs ys : List X) → map f (xs ++ ys) ≡ map f xs ++ map f ys
 map_more f [] ys = refl

@@ -60,8 +60,8 @@ pub(crate) fn put_path_line(window: &mut Window, login: &str, path: &Path)
     }
 }
 
-// How long the line of a path is.
-fn line_len(login: &str, path: &Path) -> usize
+/// How long the line of a path is.
+pub(crate) fn line_len(login: &str, path: &Path) -> usize
     ensures { result ≡ length (line (path_text login.now path.now)) }
 {
     let below = path.area().name().len() + path.key().len() + 3;

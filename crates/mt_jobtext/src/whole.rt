@@ -7,6 +7,7 @@ ghost use Rattle.mt_jobtext.specs.Pieces as pieces;
 ghost use Rattle.mt_jobtext.specs.Pieces.{NeedsStats, IsShowable, IsShown, joined_pieces, pieces_of};
 
 use crate::fill::put_all;
+use crate::lengths::{items_len, outputs_len};
 use crate::pieces::{Shown, first_count, tasks};
 use crate::stats::{Stats, needed_stats, sum};
 use crate::status::Ending;
@@ -139,12 +140,29 @@ pub(crate) fn piece_count<B>(shown: &Shown<B>) -> Result<usize, AllocError>
     Ok(count as usize)
 }
 
-/// How many bytes a text has. It takes no memory: the error is a number that is not below 2 ^ 64 - 1.
+/// How many bytes a text has. It takes no memory: the error is a number that is not below 2 ^ 64 - 1. Names of inputs and outputs are
+/// counted by their lengths.
 pub(crate) fn joined_len<B>(
     alloc: Global,
     shown: &Shown<B>,
     count: usize,
 ) -> Result<u64, AllocError>
+    requires shown { IsShown shown.now }
+    requires count { count ≡ length (pieces_of shown.now) }
+    ensures { IfOk result (λ n. n ≡ length (joined_pieces shown.now)) }
+{
+    let job = shown.job;
+    match shown.text {
+        LiveText::In => items_len(shown.login, job.inputs.as_slice()),
+        LiveText::Out => outputs_len(shown.login, job.document.phases.len(), job.trace.as_slice()),
+        LiveText::Fail | LiveText::Err | LiveText::Tasks | LiveText::Status => {
+            counted_len(alloc, shown, count)
+        }
+    }
+}
+
+// The same of any text, piece by piece.
+fn counted_len<B>(alloc: Global, shown: &Shown<B>, count: usize) -> Result<u64, AllocError>
     requires shown { IsShown shown.now }
     requires count { count ≡ length (pieces_of shown.now) }
     ensures { IfOk result (λ n. n ≡ length (joined_pieces shown.now)) }
