@@ -1,5 +1,5 @@
 -- Commands on rows: what allows them, how they are spelled, and what they keep.
-use Rattle.std.proofs.Common.{◌≡◌, ◌<◌, ◌≤◌, ℕ, ◌+◌, List, [], Option, Some, None, ◌^◌, refl, sym, ap, ◌∙◌, subst, arith}
+use Rattle.std.proofs.Common.{◌≡◌, ◌≢◌, ◌<◌, ◌≤◌, ℕ, ◌+◌, List, [], Option, Some, None, Ok, Err, ◌^◌, refl, sym, ap, ◌∙◌, subst, arith}
 use Rattle.std.proofs.lemmas.Option.{none-some}
 use Rattle.mt_path.specs.AccountPath.{AccountPath, IsPath}
 use Rattle.mt_codec.specs.Spelling.{HasSpelling, IsWithinLimits}
@@ -20,6 +20,7 @@ use Rattle.mt_types.specs.declared.command.Command.TheVariants.{Put, MakeDirecto
 use Rattle.mt_types.specs.declared.limits.TheConstants.{MOST_COMMANDS}
 use Rattle.mt_types.specs.declared.object.Field.{Field}
 use Rattle.mt_types.specs.declared.refusal.Refusal.{Refusal}
+use Rattle.mt_tree.specs.Answer.{answer}
 use Rattle.mt_engine.specs.Current.{state_of}
 
 abbrev IsOnRows : Kind → Type 0
@@ -40,6 +41,15 @@ size_of b = b.len
 pub no_refusal : (a b : Option Refusal) → first_refusal a b ≡ None → (a ≡ None) × (b ≡ None)
 no_refusal None b is = (refl, is)
 no_refusal (Some r) b is = absurd (none-some r (sym is))
+
+-- what an answer says of the refusal
+pub none_answered : (r : Option Refusal) → Ok tt ≡ answer r → r ≡ None
+none_answered None is = refl
+none_answered (Some x) is = cc
+
+pub some_answered : (r : Option Refusal) (x : Refusal) → Err x ≡ answer r → r ≢ None
+some_answered None x is = cc
+some_answered (Some y) x is = λ e. none-some y (sym e)
 
 module _ (s : State Body) where
   pub put_allowed : (path : AccountPath) (content_type : List ℕ) (body : Body) (durability : Option ℕ) (metadata : List Field) (moment : ℕ)

@@ -9,7 +9,6 @@ ghost use Rattle.mt_log.specs.LogState.{IsThere, next_place, told};
 ghost use Rattle.mt_log.specs.Places.{IsPlace, payload_at};
 ghost use Rattle.mt_body.specs.Stored.{is_stored};
 ghost use Rattle.mt_model.specs.Bodies.{OfCommand};
-ghost use Rattle.mt_model.specs.CommandStep.{allowed};
 ghost use Rattle.mt_types.specs.Kinds.{OnRows, kind_of};
 ghost use Rattle.mt_types.specs.declared.command.Command.{Command};
 ghost use Rattle.mt_types.specs.declared.body.Body.{Body};
@@ -136,23 +135,15 @@ fn bodies_stand(places: &Places, command: &Command<Body>) -> bool
     }
 }
 
-// Whether a command may stand behind the payloads that were read.
-fn may_stand(account: &Account, places: &Places, command: &Command<Body>) -> bool
+// Whether a command is one on rows whose bodies stand in the payloads that were read, and there is room for it: whether the state alone
+// decides if it may stand behind them.
+fn is_complete(account: &Account, places: &Places, command: &Command<Body>) -> bool
     ensures kind { result ≡ true → kind_of command.now ≡ OnRows }
     ensures few { result ≡ true → account.now.count < MOST_COMMANDS }
-    ensures allowed { result ≡ true → allowed (λ b. b.len) account.now command.now ≡ None }
-    ensures stands { (ps : List (List ℕ)) → ArePlaces ps places.now.earlier.items places.now.last → IsTrue result ↔ MayStand ps account.now command.now }
+    ensures stored { (ps : List (List ℕ)) → ArePlaces ps places.now.earlier.items places.now.last → result ≡ true → OfCommand (λ b. is_stored ps b ≡ true) command.now }
+    ensures only { (ps : List (List ℕ)) → ArePlaces ps places.now.earlier.items places.now.last → MayStand ps account.now command.now → result ≡ true }
 {
-    if !is_on_rows(command) {
-        return false;
-    }
-    if account.count() >= MOST_COMMANDS || !bodies_stand(places, command) {
-        return false;
-    }
-    match account.judge(command) {
-        Ok(()) => true,
-        Err(_) => false,
-    }
+    is_on_rows(command) && account.count() < MOST_COMMANDS && bodies_stand(places, command)
 }
 
 // Takes the command at a place into the state.
@@ -182,12 +173,14 @@ fn load_command<D: Disk>(
         Ok(command) => command,
         Err(end) => return Err(end),
     };
-    if !may_stand(account, places, &command) {
+    if !is_complete(account, places, &command) {
         return Err(foreign(place));
     }
     let command = digested(log, disk, command, buffer)?;
-    account.change(alloc, command)?;
-    Ok(())
+    match account.change_if_allowed(alloc, command)? {
+        Ok(()) => Ok(()),
+        Err(_) => Err(foreign(place)),
+    }
 }
 
 // Takes the payload at a place, and gives the place behind it.

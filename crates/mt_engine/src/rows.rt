@@ -1,15 +1,20 @@
 //! Commands on rows, over a tree: whether one is allowed, and what it makes of the rows.
-ghost use Rattle.std.specs.Prelude.{◌≡◌, ◌<◌, IfOk, OnOk, OnErr, None, option_map};
+ghost use Rattle.std.specs.Prelude.{◌≡◌, ◌≢◌, ◌<◌, IfOk, OnOk, OnErr, None, option_map};
 ghost use Rattle.mt_model.specs.CommandStep.{allowed, change, linked, outside_jobs};
-ghost use Rattle.mt_model.specs.Rows.{link_refusal, object_at, put_refusal, refuse_if};
+ghost use Rattle.mt_model.specs.Names.{number_at};
+ghost use Rattle.mt_model.specs.CommandStep.{put_object};
+ghost use Rattle.mt_model.specs.Rows.{link_refusal, object_at, put_refusal, refuse_if, with_row};
 ghost use Rattle.mt_model.specs.UploadSteps.{is_jobs};
 ghost use Rattle.mt_tree.specs.Answer.{answer};
 ghost use Rattle.mt_types.specs.Kinds.{OnRows, kind_of};
+ghost use Rattle.mt_types.specs.declared.object.Entry.TheVariants as entry;
 ghost use Rattle.mt_types.specs.declared.limits.TheConstants.{MOST_COMMANDS};
 ghost use Rattle.mt_engine.specs.Current.{moved_to, state_of};
 
 use mt_tree::Tree;
-use mt_types::{Area, Body, Command, Duplicate, Entry, NUMBERS_A_COMMAND, Object, Path, Refusal};
+use mt_types::{
+    Area, Body, Command, Duplicate, Entry, Fields, NUMBERS_A_COMMAND, Object, Path, Refusal, Text,
+};
 use std::alloc::{AllocError, Global};
 
 // A request changes nothing in the area of jobs.
@@ -95,6 +100,28 @@ fn link(
     }
 }
 
+// The object of a put that is the next command after so many.
+fn new_object(
+    count: u64,
+    content_type: Text,
+    body: Body,
+    durability: Option<u8>,
+    metadata: Fields,
+    moment: u64,
+) -> Object<Body>
+    requires { count < MOST_COMMANDS }
+    ensures { result ≡ put_object (number_at count 0) body content_type durability metadata moment }
+{
+    Object {
+        number: count * NUMBERS_A_COMMAND,
+        body,
+        content_type,
+        durability,
+        metadata,
+        mtime: moment,
+    }
+}
+
 /// Changes the rows as a command on rows does that is the next after so many. On an error, which is want of memory, they are as
 /// they were.
 #[tactic(auto, unfolding(mt_model::specs::CommandStep::change))]
@@ -119,14 +146,7 @@ pub fn change(
             metadata,
             moment,
         } => {
-            let object = Object {
-                number: count * NUMBERS_A_COMMAND,
-                body,
-                content_type,
-                durability,
-                metadata,
-                mtime: moment,
-            };
+            let object = new_object(count, content_type, body, durability, metadata, moment);
             tree.put_object(path, object)
         }
         Command::MakeDirectory { path, moment } => tree.make_directory(path, moment),
@@ -140,5 +160,75 @@ pub fn change(
             Ok(())
         }
         _ => unreachable!(),
+    }
+}
+
+// Puts an object at a path outside jobs where that is allowed.
+fn put_if_allowed(
+    tree: &mut Tree<Body>,
+    path: Path,
+    object: Object<Body>,
+) -> Result<Result<(), Refusal>, AllocError>
+    ensures answer { IfOk result (λ may. may ≡ answer (outside_jobs path (put_refusal tree.old path))) }
+    ensures ok { outside_jobs path (put_refusal tree.old path) ≡ None → OnOk result (tree.new ≡ with_row tree.old path (entry.Object object)) }
+    ensures refused { outside_jobs path (put_refusal tree.old path) ≢ None → tree.new ≡ tree.old }
+    ensures err { OnErr result (tree.new ≡ tree.old) }
+{
+    if let Err(refusal) = outside_jobs(&path) {
+        return Ok(Err(refusal));
+    }
+    tree.put_if_allowed(path, object)
+}
+
+// Judges a command on rows, and changes the rows where it is allowed.
+fn judge_and_change(
+    tree: &mut Tree<Body>,
+    alloc: Global,
+    count: u64,
+    command: Command<Body>,
+) -> Result<Result<(), Refusal>, AllocError>
+    requires kind { kind_of command ≡ OnRows }
+    requires few { count < MOST_COMMANDS }
+    ensures answer { IfOk result (λ may. may ≡ answer (allowed (λ b. b.len) (state_of count tree.old) command)) }
+    ensures ok { allowed (λ b. b.len) (state_of count tree.old) command ≡ None → OnOk result (tree.new ≡ (change (state_of count tree.old) command).rows) }
+    ensures refused { allowed (λ b. b.len) (state_of count tree.old) command ≢ None → tree.new ≡ tree.old }
+    ensures err { OnErr result (tree.new ≡ tree.old) }
+{
+    if let Err(refusal) = judge(tree, count, &command) {
+        return Ok(Err(refusal));
+    }
+    change(tree, alloc, count, command)?;
+    Ok(Ok(()))
+}
+
+/// Changes the rows as a command on rows does that is the next after so many, where it is allowed, and answers as [`judge`] does. A put
+/// costs a look-up less than the two. On a refusal, and on an error, which is want of memory, they are as they were.
+#[tactic(auto, unfolding(mt_model::specs::CommandStep::allowed, mt_model::specs::CommandStep::change))]
+pub fn change_if_allowed(
+    tree: &mut Tree<Body>,
+    alloc: Global,
+    count: u64,
+    command: Command<Body>,
+) -> Result<Result<(), Refusal>, AllocError>
+    requires kind { kind_of command ≡ OnRows }
+    requires few { count < MOST_COMMANDS }
+    ensures answer { IfOk result (λ may. may ≡ answer (allowed (λ b. b.len) (state_of count tree.old) command)) }
+    ensures ok { allowed (λ b. b.len) (state_of count tree.old) command ≡ None → OnOk result (tree.new ≡ (change (state_of count tree.old) command).rows) }
+    ensures refused { allowed (λ b. b.len) (state_of count tree.old) command ≢ None → tree.new ≡ tree.old }
+    ensures err { OnErr result (tree.new ≡ tree.old) }
+{
+    match command {
+        Command::Put {
+            path,
+            content_type,
+            body,
+            durability,
+            metadata,
+            moment,
+        } => {
+            let object = new_object(count, content_type, body, durability, metadata, moment);
+            put_if_allowed(tree, path, object)
+        }
+        other => judge_and_change(tree, alloc, count, other),
     }
 }

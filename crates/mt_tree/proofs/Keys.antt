@@ -1,5 +1,5 @@
 -- The entries of a map by their components: look-ups, changes and ranges by keys are those by components.
-use Rattle.std.proofs.Common.{◌≡◌, ℕ, ◌&&◌, Bool, true, false, cond, List, [], ◌∷◌, length, Some, refl, sym, ap, ◌∙◌}
+use Rattle.std.proofs.Common.{◌≡◌, ℕ, ◌&&◌, Bool, true, false, cond, List, [], ◌∷◌, length, Some, refl, sym, ap, ◌∙◌, map}
 use Rattle.std.specs.List.{AllByRecursion, filter}
 use Rattle.std.specs.List.Sorted.{IsStrictlySortedBy}
 use Rattle.std.specs.BTreeMap.{insert_entry, is_at}
@@ -89,6 +89,14 @@ module _ {X : Type 0} (parts : Parts) (all : AllByRecursion IsClear parts) where
 module _ {X : Type 0} where
   pub length-opened : (es : Stored X) → length (opened es) ≡ length es
   length-opened es = length-map es (λ e. (parts_of e.0.items, e.1.value))
+
+  opened_keys : (es : Stored X) → keys_of (opened es) ≡ map (λ k. parts_of k.items) (keys_of es)
+  opened_keys [] = refl
+  opened_keys (e ∷ es) = ap (λ l. parts_of e.0.items ∷ l) (opened_keys es)
+
+  -- the same keys
+  pub opened-keys : (new old : Stored X) → keys_of new ≡ keys_of old → keys_of (opened new) ≡ keys_of (opened old)
+  opened-keys new old same = opened_keys new ∙ ap (map (λ k. parts_of k.items)) same ∙ sym (opened_keys old)
 
   opened_match : (r : Ordering) (a b c : Stored X) → opened (match_ordering r a b c) ≡ match_ordering r (opened a) (opened b) (opened c)
   opened_match Less a b c = refl

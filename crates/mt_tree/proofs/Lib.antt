@@ -18,6 +18,7 @@ pub mod Places
 pub mod Raised
 pub mod Roots
 pub mod Scans
+pub mod Settled
 pub mod Shown
 pub mod Skips
 pub mod Valued

@@ -1,5 +1,5 @@
 -- A change in the map of one area is that change of all rows.
-use Rattle.std.proofs.Common.{◌≡◌, ℕ, ◌<◌, ◌≤◌, Bool, true, false, cond, List, [], ◌∷◌, length, Option, Some, None, Result, Ok, Err, refl, sym, ap, subst, ◌∙◌, arith}
+use Rattle.std.proofs.Common.{◌≡◌, ℕ, ◌<◌, ◌≤◌, Bool, true, false, cond, List, length, Option, Some, None, option_map, Result, Ok, Err, refl, sym, ap, subst, ◌∙◌, arith}
 use Rattle.std.specs.Prelude.{is_some, IfSome, OnOk, OnErr}
 use Rattle.std.specs.BTreeMap.{insert_entry}
 use Rattle.std.specs.Map.{lookup, remove_entry}
@@ -12,11 +12,12 @@ use Rattle.mt_model.specs.Rows.{is_path, at, with_row, without_row, is_directory
 use Rattle.mt_model.proofs.RowLaws.{remove-allowed}
 use Rattle.mt_model.proofs.Children.{above, parent-above, some-not_root}
 use Rattle.mt_tree.specs.declared.kept.KeptRow.{KeptRow}
-use Rattle.mt_tree.specs.Kept.{changed, childless as without_children, is_key, joined, lowered, made_room, parts_above, parts_cmp, raised, rows_of, IsKept}
+use Rattle.mt_tree.specs.Kept.{changed, childless as without_children, is_key, joined, lowered, made_room, parts_above, parts_cmp, raised, rows_of, has_directory, IsKept}
 use Rattle.mt_path.specs.Keys.{Parts}
 use Rattle.std.specs.declared.alloc.AllocError.{AllocError}
 use Rattle.mt_tree.proofs.ChildrenIn.{children-few}
 use Rattle.mt_tree.proofs.Grown.{room, rest, rows-grown, kept-grown, rows-shrunk, kept-shrunk, number-is, number-positive}
+use Rattle.mt_tree.proofs.Valued.{lookup-valued}
 use Rattle.mt_tree.proofs.Joined.{Entries, path_in, part, with_part, lookup-joined, remove-joined, changed-joined, insert-joined}
 
 module _ {X : Type 0} (s u j : Entries X) where
@@ -104,18 +105,32 @@ module _ {B : Type 0} (s u j : Entries (KeptRow B)) (area : Area) (path : Accoun
       ∙ rows-grown (joined s u j) (path_in area k) (above (path_in area k)) e
       ∙ ap (λ p. with_row (rows_of (joined s u j)) p e) here
 
-  pub below-root : is_directory (at (rows_of (joined s u j)) path) ≡ false → (parts : Parts) → path.parts ≡ parts → 0 < length parts
-  below-root free [] none =
-      let root : is_directory (at (rows_of (joined s u j)) path) ≡ true = ap (λ parts. is_directory (at (rows_of (joined s u j)) (path_in path.area parts))) none ∙ kept.tree.roots path.area in cc
-  below-root free (part ∷ parts) none = omega arith
+  -- what stands at the path
+  pub stands : has_directory k (part area s u j) ≡ is_directory (at (rows_of (joined s u j)) path)
+  stands =
+      ap (λ o. is_directory (option_map (λ row. row.entry) o)) (sym (lookup-joined s u j area k) ∙ ap (λ p. lookup (is_path p) (joined s u j)) here)
+      ∙ ap is_directory (sym (lookup-valued (λ row. row.entry) (is_path path) (joined s u j)))
 
-  module _ (result : Result (Unit {0}) AllocError) (new : Entries (KeptRow B)) (ok : OnOk result (new ≡ inserted)) where
-    rows_case : (r : Result (Unit {0}) AllocError) → OnOk r (new ≡ inserted) → OnOk r (rows_of (with_part area s u j new) ≡ with_row (rows_of (joined s u j)) path e)
+  module _ (result : Result Bool AllocError) (new : Entries (KeptRow B)) where
+    rows_case : (r : Result Bool AllocError) → OnOk r (new ≡ inserted) → OnOk r (rows_of (with_part area s u j new) ≡ with_row (rows_of (joined s u j)) path e)
     rows_case (Ok x) is = ap (λ es. rows_of (with_part area s u j es)) is ∙ all_rows
     rows_case (Err x) is = tt
 
-    pub inserted-rows : OnOk result (rows_of (with_part area s u j new) ≡ with_row (rows_of (joined s u j)) path e)
-    inserted-rows = rows_case result ok
+    pub inserted-rows : (has_directory k (part area s u j) ≡ false → OnOk result (new ≡ inserted)) → is_directory (at (rows_of (joined s u j)) path) ≡ false → OnOk result (rows_of (with_part area s u j new) ≡ with_row (rows_of (joined s u j)) path e)
+    inserted-rows put free = rows_case result (put (stands ∙ free))
+
+    same_kept : new ≡ part area s u j → IsKept (with_part area s u j new)
+    same_kept old = subst (λ es. IsKept (with_part area s u j es)) (sym old) (subst IsKept (sym (same-with s u j area)) kept)
+
+    pub same-rows : new ≡ part area s u j → rows_of (with_part area s u j new) ≡ rows_of (joined s u j)
+    same-rows old = ap (λ es. rows_of (with_part area s u j es)) old ∙ ap rows_of (same-with s u j area)
+
+    err_case : (r : Result Bool AllocError) → OnErr r (new ≡ part area s u j) → OnErr r (rows_of (with_part area s u j new) ≡ rows_of (joined s u j))
+    err_case (Ok x) old = tt
+    err_case (Err x) old = same-rows old
+
+    pub failed-rows : OnErr result (new ≡ part area s u j) → OnErr result (rows_of (with_part area s u j new) ≡ rows_of (joined s u j))
+    failed-rows old = err_case result old
 
     all_kept : IsPath path → 0 < length path.parts → ((d : AccountPath) → parent_of path ≡ Some d → is_directory (at (rows_of (joined s u j)) d) ≡ true) → is_directory (at (rows_of (joined s u j)) path) ≡ false → IsKept (with_part area s u j inserted)
     all_kept is some parent free =
@@ -123,12 +138,17 @@ module _ {B : Type 0} (s u j : Entries (KeptRow B)) (area : Area) (path : Accoun
         (subst (λ p. IsKept (insert_entry path_cmp (room (joined s u j) p (above p)) p (without_children e))) (sym here)
         (kept-grown (joined s u j) path (above path) e kept is (parent-above path some) (parent (above path) (parent-above path some)) free))
 
-    kept_case : (r : Result (Unit {0}) AllocError) → OnOk r (new ≡ inserted) → OnErr r (new ≡ part area s u j) → IsKept (with_part area s u j inserted) → IsKept (with_part area s u j new)
+    kept_case : (r : Result Bool AllocError) → OnOk r (new ≡ inserted) → OnErr r (new ≡ part area s u j) → IsKept (with_part area s u j inserted) → IsKept (with_part area s u j new)
     kept_case (Ok x) is old more = subst (λ es. IsKept (with_part area s u j es)) (sym is) more
-    kept_case (Err x) is old more = subst (λ es. IsKept (with_part area s u j es)) (sym old) (subst IsKept (sym (same-with s u j area)) kept)
+    kept_case (Err x) is old more = same_kept old
 
-    pub inserted-kept : OnErr result (new ≡ part area s u j) → IsPath path → ((d : AccountPath) → parent_of path ≡ Some d → is_directory (at (rows_of (joined s u j)) d) ≡ true) → is_directory (at (rows_of (joined s u j)) path) ≡ false → IsKept (with_part area s u j new)
-    inserted-kept err is parent free = kept_case result ok err (all_kept is (below-root free path.parts refl) parent free)
+    pub inserted-kept : (has_directory k (part area s u j) ≡ false → OnOk result (new ≡ inserted)) → (has_directory k (part area s u j) ≡ true → new ≡ part area s u j) → OnErr result (new ≡ part area s u j)
+        → IsPath path → 0 < length path.parts → ((d : AccountPath) → parent_of path ≡ Some d → is_directory (at (rows_of (joined s u j)) d) ≡ true) → IsKept (with_part area s u j new)
+    inserted-kept put refused err is some parent = by (is_directory (at (rows_of (joined s u j)) path)) refl
+      where
+        by : (b : Bool) → is_directory (at (rows_of (joined s u j)) path) ≡ b → IsKept (with_part area s u j new)
+        by true taken = same_kept (refused (stands ∙ taken))
+        by false free = kept_case result (put (stands ∙ free)) err (all_kept is some parent free)
 
 -- a removal from the map of an area
 module _ {B : Type 0} (s u j : Entries (KeptRow B)) (area : Area) (path : AccountPath) (parts : Parts) (here : path_in area parts ≡ path) (kept : IsKept (joined s u j)) (allowed : remove_refusal (rows_of (joined s u j)) path ≡ None) where

@@ -1,5 +1,5 @@
 -- How the rows of an account are kept: by area and components, each row beside the number of its children.
-use Rattle.std.specs.Prelude.{◌≡◌, ℕ, ◌+◌, ◌-◌, Bool, List, [], ◌∷◌, ◌++◌, map, length, take, IfSome, All, is_some, if◌then◌else◌}
+use Rattle.std.specs.Prelude.{◌≡◌, ℕ, ◌+◌, ◌-◌, Bool, List, [], ◌∷◌, ◌++◌, map, length, take, option_map, IfSome, All, is_some, if◌then◌else◌}
 use Rattle.std.specs.declared.cmp.Ordering.{Ordering}
 use Rattle.std.specs.BTreeMap.{is_at}
 use Rattle.std.specs.Cmp.Lexicographic.{slice_cmp}
@@ -10,7 +10,7 @@ use Rattle.mt_path.specs.declared.area.Area.{Area}
 use Rattle.mt_path.specs.declared.area.Area.TheVariants.{Stor, Public, Jobs}
 use Rattle.mt_types.specs.declared.object.Entry.{Entry}
 use Rattle.mt_types.specs.declared.object.Entry.TheVariants.{Directory}
-use Rattle.mt_model.specs.Rows.{Rows, is_path, children, IsTree}
+use Rattle.mt_model.specs.Rows.{Rows, is_directory, is_path, children, IsTree}
 use Rattle.mt_tree.specs.declared.kept.KeptRow.{KeptRow}
 use Rattle.mt_path.specs.Keys.{Parts}
 
@@ -59,6 +59,10 @@ module _ {B : Type 0} where
   -- with one child more at the path above, where no row stood at the path
   abbrev pub made_room : Parts → List (Parts × KeptRow B) → List (Parts × KeptRow B)
   made_room parts es = if is_some (lookup (is_key parts) es) then es else changed (is_key (parts_above parts)) raised es
+
+  -- a directory stands at these components
+  abbrev pub has_directory : Parts → List (Parts × KeptRow B) → Bool
+  has_directory parts es = is_directory (option_map (λ row. row.entry) (lookup (is_key parts) es))
 
   -- the rows, without the numbers
   abbrev pub rows_of : List (AccountPath × KeptRow B) → Rows B

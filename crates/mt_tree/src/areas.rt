@@ -1,5 +1,5 @@
 //! The rows of an account, area by area.
-ghost use Rattle.std.specs.Prelude.{◌≡◌, true, false, IfOk, OnOk, OnErr, Some, None, is_some, option_copied};
+ghost use Rattle.std.specs.Prelude.{◌≡◌, ◌<◌, true, false, IfOk, OnOk, OnErr, Some, None, length, not, option_copied};
 ghost use Rattle.std.specs.Map.{lookup};
 ghost use Rattle.mt_path.specs.AccountPath.{AccountPath, parent_of};
 ghost use Rattle.mt_path.specs.Keys.{IsKey, path_at};
@@ -56,23 +56,26 @@ impl<B> Areas<B> {
         self.kept(area).get(key)
     }
 
-    /// Puts an entry without children at a path, in the place of the one that stood there.
-    pub fn insert(&mut self, path: Path, entry: Entry<B>) -> Result<(), AllocError>
+    /// Puts an entry without children at a path, in the place of an object that stood there. Whether it was put: where a directory
+    /// stands, and on an error, all is as it was.
+    pub fn put(&mut self, path: Path, entry: Entry<B>) -> Result<bool, AllocError>
     where
         B: Drop,
         requires kept { IsKept (kept_of self.old) }
+        requires below { 0 < length path.parts }
         requires parent { (d : AccountPath) → parent_of path ≡ Some d → is_directory (at (all_of self.old) d) ≡ true }
-        requires free { is_directory (at (all_of self.old) path) ≡ false }
-        ensures ok { OnOk result (all_of self.new ≡ with_row (all_of self.old) path entry) }
+        ensures answer { IfOk result (λ is_put. is_put ≡ not (is_directory (at (all_of self.old) path))) }
+        ensures put { is_directory (at (all_of self.old) path) ≡ false → OnOk result (all_of self.new ≡ with_row (all_of self.old) path entry) }
+        ensures refused { is_directory (at (all_of self.old) path) ≡ true → all_of self.new ≡ all_of self.old }
         ensures err { OnErr result (all_of self.new ≡ all_of self.old) }
         ensures kept { IsKept (kept_of self.new) }
     {
         let key = path.key();
         let above = path.parent_key();
         match path.area() {
-            Area::Stor => self.stor.insert(key, above, entry),
-            Area::Public => self.public.insert(key, above, entry),
-            Area::Jobs => self.jobs.insert(key, above, entry),
+            Area::Stor => self.stor.put(key, above, entry),
+            Area::Public => self.public.put(key, above, entry),
+            Area::Jobs => self.jobs.put(key, above, entry),
         }
     }
 

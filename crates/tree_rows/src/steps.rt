@@ -43,6 +43,16 @@ impl Steps {
         }
     }
 
+    // `try PATH NUMBER`: an object, judged by the call that puts it.
+    fn try_put(&mut self, alloc: Global, row: &Row, out: &mut String) -> Result<(), Stop> {
+        let number = row.number(2)?;
+        let path = path_at(alloc, row, 1)?;
+        match self.tree.put_if_allowed(path, object(alloc, number)?)? {
+            Ok(()) => Ok(out.push_str("Ok")?),
+            Err(refusal) => Ok(write!(out, "{refusal:?}")?),
+        }
+    }
+
     // `directory PATH MOMENT`
     fn make(&mut self, alloc: Global, row: &Row, out: &mut String) -> Result<(), Stop> {
         let moment = row.number(2)?;
@@ -95,6 +105,7 @@ impl Rows for Steps {
         match row.text(0)? {
             "new" => self.clear(alloc),
             "put" => self.put(alloc, row, out),
+            "try" => self.try_put(alloc, row, out),
             "directory" => self.make(alloc, row, out),
             "remove" => self.remove(alloc, row, out),
             "objects" => self.put_many(alloc, row),

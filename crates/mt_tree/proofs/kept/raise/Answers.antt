@@ -2,7 +2,7 @@ use Rattle.std.proofs.Common.{◌<◌, ◌^◌, sym, ap, subst, arith}
 use Rattle.std.specs.Prelude.{IfSome}
 use Rattle.mt_tree.specs.Kept.{raised}
 use Rattle.mt_tree.proofs.Boxed.{opened-row, untouched-opened, written-opened}
-use Rattle.mt_tree.proofs.kept.raise_if.Goals as goal
+use Rattle.mt_tree.proofs.kept.raise.Goals as goal
 
 pub overflow_add-rows : goal.overflow_add-rows
 overflow_add-rows g c =
@@ -10,7 +10,7 @@ overflow_add-rows g c =
     omega (arith, few, ap (λ row. row.children) c.deref_mut.ensures.value)
 
 pub returns-in-Some-clause-raised : goal.returns-in-Some-clause-raised
-returns-in-Some-clause-raised g c = λ _. (written-opened c.args.key.now c.requires.key c.args.rows.now.entries c.requires.keys raised c.in-Some.row.now c.deref_mut.result.now c.in-Some.ensures.value c.deref_mut.ensures.value _ (c.get_mut.follows.holds _).0).0
+returns-in-Some-clause-raised g c = (written-opened c.args.key.now c.requires.key c.args.rows.now.entries c.requires.keys raised c.in-Some.row.now c.deref_mut.result.now c.in-Some.ensures.value c.deref_mut.ensures.value _ (c.get_mut.follows.holds _).0).0
 
 pub returns-in_default-clause-raised : goal.returns-in_default-clause-raised
-returns-in_default-clause-raised g c = λ _. untouched-opened c.args.key.now c.requires.key c.args.rows.now.entries c.requires.keys raised c.in_default.ensures.value _ (ap (λ m. m.entries) c.get_mut.follows.holds-at-none)
+returns-in_default-clause-raised g c = untouched-opened c.args.key.now c.requires.key c.args.rows.now.entries c.requires.keys raised c.in_default.ensures.value _ (ap (λ m. m.entries) c.get_mut.follows.holds-at-none)
