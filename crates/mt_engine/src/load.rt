@@ -135,8 +135,8 @@ fn bodies_stand(places: &Places, command: &Command<Body>) -> bool
     }
 }
 
-// Whether a command is one on rows whose bodies stand in the payloads that were read, and there is room for it: whether the state alone
-// decides if it may stand behind them.
+// Whether a command is one on rows, its bodies stand in the payloads that were read, and one more command may be counted. Whether it may
+// stand behind them is then the state's to say.
 fn is_complete(account: &Account, places: &Places, command: &Command<Body>) -> bool
     ensures kind { result ≡ true → kind_of command.now ≡ OnRows }
     ensures few { result ≡ true → account.now.count < MOST_COMMANDS }

@@ -1,8 +1,7 @@
 //! Commands on rows, over a tree: whether one is allowed, and what it makes of the rows.
 ghost use Rattle.std.specs.Prelude.{◌≡◌, ◌≢◌, ◌<◌, IfOk, OnOk, OnErr, None, option_map};
-ghost use Rattle.mt_model.specs.CommandStep.{allowed, change, linked, outside_jobs};
+ghost use Rattle.mt_model.specs.CommandStep.{allowed, change, linked, outside_jobs, put_object};
 ghost use Rattle.mt_model.specs.Names.{number_at};
-ghost use Rattle.mt_model.specs.CommandStep.{put_object};
 ghost use Rattle.mt_model.specs.Rows.{link_refusal, object_at, put_refusal, refuse_if, with_row};
 ghost use Rattle.mt_model.specs.UploadSteps.{is_jobs};
 ghost use Rattle.mt_tree.specs.Answer.{answer};

@@ -60,6 +60,3 @@ module _ {X : Type 0} (key : List ℕ) (is : IsKey key) (es : Stored X) (keys : 
       let e : new ≡ changed (is_raw (parts_of key)) (λ b. other) es = set ∙ ap (λ b. set_value (λ k. is_at (bytes_cmp b) k.items) es other) is.whole
       ∙ written (is_raw (parts_of key)) (λ b. other) es row (sym (found ∙ found_is)) in
       (ap opened e ∙ changed-opened (parts_of key) is.clear (λ x. other.value) (λ b. other) (λ b. refl) es keys, subst AreKeys (sym e) (keys-changed (is_raw (parts_of key)) (λ b. other) es keys))
-
-  pub missing-opened : (f : X → X) → None ≡ lookup at_key es → (new : Stored X) → new ≡ es → opened new ≡ changed (is_key (parts_of key)) f (opened es)
-  missing-opened f none new same = ap opened same ∙ sym (untouched (is_key (parts_of key)) f (opened es) (sym (opened-none none)))

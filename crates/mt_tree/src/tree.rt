@@ -128,9 +128,9 @@ impl<B> Tree<B> {
         Ok(())
     }
 
-    /// Puts an object at a path where that is allowed, and answers as [`Tree::may_put`] does. It costs a look-up less than the two: of the
-    /// row above and, where the row is new, of that row again. On a refusal, and on an error, which is want of memory, the tree is as
-    /// it was.
+    /// Puts an object at a path where that is allowed, and answers as [`Tree::may_put`] does. It costs one look-up, of the row above, and
+    /// a put: what stands at the path is seen as the row goes in. On a refusal, and on an error, which is want of memory, the tree is
+    /// as it was.
     pub fn put_if_allowed(
         &mut self,
         path: Path,
