@@ -5,4 +5,5 @@ pub mod Ended
 pub mod Pieces
 pub mod Places
 pub mod Lines
+pub mod Laid
 pub mod Laws
