@@ -53,7 +53,7 @@ module _ {X : Type 0} where
 whole : (xs : List (List ℕ)) → flat_map (λ piece. piece) (xs ++ []) ≡ flat_map (λ piece. piece) xs
 whole xs = ap (flat_map (λ piece. piece)) (append-nil xs)
 
-pub joined_map : {X : Type 0} (f : X → List ℕ) (xs : List X) → flat_map (λ piece. piece) (map f xs) ≡ flat_map f xs
+joined_map : {X : Type 0} (f : X → List ℕ) (xs : List X) → flat_map (λ piece. piece) (map f xs) ≡ flat_map f xs
 joined_map f xs = lines_of_map (λ piece. piece) f xs
 
 -- the phase before the last

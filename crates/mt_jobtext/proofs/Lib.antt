@@ -7,6 +7,5 @@ pub mod Bodies
 pub mod Numbered
 pub mod Outputs
 pub mod Chunks
-pub mod Laid
 pub mod Filled
 pub mod PathTexts

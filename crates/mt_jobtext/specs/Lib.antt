@@ -5,5 +5,4 @@ pub mod Ended
 pub mod Pieces
 pub mod Places
 pub mod Lines
-pub mod Laid
 pub mod Laws

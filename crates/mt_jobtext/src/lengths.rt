@@ -28,12 +28,8 @@ pub(crate) fn outputs_len<B>(
     Ok(len)
 }
 
-/// The same of one task.
-pub(crate) fn task_len<B>(
-    login: &str,
-    phases: usize,
-    entry: &TraceEntry<B>,
-) -> Result<u64, AllocError>
+// The same of one task.
+fn task_len<B>(login: &str, phases: usize, entry: &TraceEntry<B>) -> Result<u64, AllocError>
     ensures { IfOk result (λ n. n ≡ length (output_lines login.now phases entry.now)) }
 {
     if entry.phase as u64 + 1 == phases as u64 {

@@ -3,12 +3,11 @@
 //!
 //! - `text`: which texts there are. `whole`: a text, and how long it is. `lengths`: how long names are. `lines`: a text as a source.
 //! - `window`: a part of a text that is written piece by piece. `quotes`: numbers and JSON in it.
-//! - `pieces`: the pieces of the texts. `fill`: all of them in a window, or from a place on. `direct`: names without a window. `names`, `errors`, `tasks`, `status`, `phases`: what stands in them.
+//! - `pieces`: the pieces of the texts. `fill`: all of them in a window, or from a place on. `names`, `errors`, `tasks`, `status`, `phases`: what stands in them.
 //! - `found`: what a task of a job read. `stats`: how much there is of a job.
 //! - `laws`: no text looks at bodies.
 #![tactic(auto)]
 
-mod direct;
 mod errors;
 mod fill;
 mod found;

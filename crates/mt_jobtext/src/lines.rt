@@ -1,5 +1,4 @@
 //! A text of a job as a source, which is made while it is read.
-use crate::direct::take_whole;
 use crate::fill::{Place, fill};
 use crate::pieces::Shown;
 use crate::stats::needed_stats;
@@ -127,12 +126,6 @@ impl<'a, B> Source for Lines<'a, B> {
     ghost source_stays = { λ a b. ⊤ };
 
     fn read(&mut self, into: &mut [u8]) -> ReadStep {
-        let (place, whole) = take_whole(&self.shown, self.place, into);
-        if whole > 0 {
-            self.place = place;
-            self.left -= whole as u64;
-            return ReadStep::Took(whole);
-        }
         self.place = fill(
             &mut self.window,
             &self.shown,

@@ -180,9 +180,8 @@ impl Window {
     }
 }
 
-/// Writes a key, with a slash for each byte 0.
-#[inline(always)]
-pub(crate) fn copy_shown(into: &mut [u8], key: &[u8])
+// Writes a key, with a slash for each byte 0.
+fn copy_shown(into: &mut [u8], key: &[u8])
     requires { length into.old ≡ length key.now }
     ensures { into.new ≡ map shown_byte key.now }
 {
