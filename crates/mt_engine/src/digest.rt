@@ -1,5 +1,5 @@
 //! The digests of bodies in a log, of which a log keeps none: they are taken once, as it is opened.
-ghost use Rattle.std.specs.Prelude.{◌≡◌, ◌<◌, ◌≤◌, ℕ, List, true, false, length, IfOk, IsErrOf};
+ghost use Rattle.std.specs.Prelude.{◌≡◌, ◌<◌, ◌≤◌, ℕ, List, true, false, length, IfOk, OnOk, OnErr, IsErrOf};
 ghost use Rattle.std.specs.Option.{ForSome};
 ghost use Rattle.md5.specs.Md5.{md5};
 ghost use Rattle.mt_base.specs.Counts.{HasCause, NeverFell, Rose};
@@ -67,58 +67,32 @@ fn digest_body<D: Disk>(
     Ok(sum)
 }
 
-/// Gives each body that a command on rows brings the digest of its bytes in the log, which are read once.
-pub(crate) fn digested<D: Disk>(
+/// Gives each body that a command on rows brings the digest of its bytes in the log, which are read once. After a fault the command is
+/// as it was.
+pub(crate) fn digest_command<D: Disk>(
     log: &Log,
     disk: &mut D,
-    command: Command<Body>,
+    command: &mut Command<Body>,
     buffer: &mut Vec<u8>,
-) -> Result<Command<Body>, ReadFault>
+) -> Result<(), ReadFault>
     requires there { IsThere D.seen disk.old log.now }
     requires is_open { log.now.closed ≡ false }
-    requires kind { kind_of command ≡ OnRows }
-    requires stored { ForSome (told (D.seen disk.old)) (λ ps. OfCommand (λ b. is_stored ps b ≡ true) command) }
-    ensures same { IfOk result (λ c. (sum : List ℕ) × (c ≡ with_digest sum command)) }
-    ensures digests { IfOk result (λ c. ForSome (told (D.seen disk.old)) (λ ps. OfCommand (IsStored ps) c)) }
+    requires kind { kind_of command.old ≡ OnRows }
+    requires stored { ForSome (told (D.seen disk.old)) (λ ps. OfCommand (λ b. is_stored ps b ≡ true) command.old) }
+    ensures same { OnOk result ((sum : List ℕ) × (command.new ≡ with_digest sum command.old)) }
+    ensures digests { OnOk result (ForSome (told (D.seen disk.old)) (λ ps. OfCommand (IsStored ps) command.new)) }
+    ensures err { OnErr result (command.new ≡ command.old) }
     ensures read { OnlyRead D.seen D.may_leave D.moment D.left_since disk.old disk.new }
     ensures stays { D.stays disk.old disk.new }
     ensures disk { IsErrOf result ReadFault.Disk → Rose (D.faults disk.old) (D.faults disk.new) }
     ensures faults { NeverFell (D.faults disk.old) (D.faults disk.new) }
 {
     match command {
-        Command::Put {
-            path,
-            content_type,
-            body,
-            durability,
-            metadata,
-            moment,
-        } => {
-            let md5 = digest_body(log, disk, &body, buffer)?;
-            Ok(Command::Put {
-                path,
-                content_type,
-                body: Body {
-                    first: body.first,
-                    len: body.len,
-                    md5,
-                },
-                durability,
-                metadata,
-                moment,
-            })
+        Command::Put { body, .. } => {
+            body.md5 = digest_body(log, disk, body, buffer)?;
+            Ok(())
         }
-        Command::MakeDirectory { path, moment } => Ok(Command::MakeDirectory { path, moment }),
-        Command::Link {
-            path,
-            source,
-            moment,
-        } => Ok(Command::Link {
-            path,
-            source,
-            moment,
-        }),
-        Command::Delete { path, moment } => Ok(Command::Delete { path, moment }),
+        Command::MakeDirectory { .. } | Command::Link { .. } | Command::Delete { .. } => Ok(()),
         _ => unreachable!(),
     }
 }

@@ -19,7 +19,7 @@ ghost use Rattle.mt_engine.specs.declared.opening.Unreadable.{Unreadable};
 ghost use Rattle.mt_engine.specs.declared.opening.Unreadable.TheVariants.{Foreign};
 
 use crate::account::Account;
-use crate::digest::digested;
+use crate::digest::digest_command;
 use crate::opening::{OpenEnd, foreign};
 use crate::places::Places;
 use mt_ahead::ReadAhead;
@@ -169,14 +169,14 @@ fn load_command<D: Disk>(
     ensures disk { IsErrOf result OpenEnd.Disk → Rose (D.faults disk.old) (D.faults disk.new) }
     ensures faults { NeverFell (D.faults disk.old) (D.faults disk.new) }
 {
-    let command = match command_at(alloc, log, disk, place, buffer) {
+    let mut command = match command_at(alloc, log, disk, place, buffer) {
         Ok(command) => command,
         Err(end) => return Err(end),
     };
     if !is_complete(account, places, &command) {
         return Err(foreign(place));
     }
-    let command = digested(log, disk, command, buffer)?;
+    digest_command(log, disk, &mut command, buffer)?;
     match account.change_if_allowed(alloc, command)? {
         Ok(()) => Ok(()),
         Err(_) => Err(foreign(place)),

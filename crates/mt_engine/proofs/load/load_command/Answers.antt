@@ -27,37 +27,37 @@ returns-then-not-is_complete-clause-foreign g c why is ps told_is =
     subst (λ u. NamesForeign ps u) same
     (no_place ps c.args.place c.args.account.now c.args.places.now.earlier.items c.args.places.now.last l (c.requires.place ps told_is) found.0 c.in-Ok.command (found.2 ps told_is) (c.requires.no_piece ps told_is) found.1 never)
 
-pub digested-requires-clause-stored : goal.digested-requires-clause-stored
-digested-requires-clause-stored g c ps is =
+pub digest_command-requires-clause-stored : goal.digest_command-requires-clause-stored
+digest_command-requires-clause-stored g c ps is =
     let l = c.requires.loading ps (sym (ap told c.in-Ok.ensures.read.seen_same) ∙ is) in
     stands_on ps c.args.place c.args.account.now c.args.places.now.earlier.items c.args.places.now.last l c.in-Ok.command (c.is_complete.ensures.kind c.if-not-is_complete.false)
     (c.is_complete.ensures.stored l.before l.pieces c.if-not-is_complete.false)
 
 pub change_if_allowed-requires-clause-spelled : goal.change_if_allowed-requires-clause-spelled
 change_if_allowed-requires-clause-spelled g c =
-    let same = c.in_ok-command.ensures.same in
+    let same = c.in_ok-digest_command.ensures.same in
     subst HasSpelling (sym same.1) (digested same.0 c.in-Ok.command (c.is_complete.ensures.kind c.if-not-is_complete.false) c.in-Ok.ensures.found.1.fits).fits
 
 pub returns-in-Ok-2-clause-loading : goal.returns-in-Ok-2-clause-loading
 returns-in-Ok-2-clause-loading g c ps is =
     let l = c.requires.loading ps is in
     let found = c.in-Ok.ensures.found in
-    let same = c.in_ok-command.ensures.same in
+    let same = c.in_ok-digest_command.ensures.same in
     let kind = c.is_complete.ensures.kind c.if-not-is_complete.false in
-    let may : allowed size_of c.args.account.now c.in_ok-command.command ≡ None = none_answered _ (sym c.in-Ok-2.is ∙ c.in_ok-change_if_allowed.ensures.answer) in
+    let may : allowed size_of c.args.account.now c.digest_command.new.command ≡ None = none_answered _ (sym c.in-Ok-2.is ∙ c.in_ok-change_if_allowed.ensures.answer) in
     let was_may : allowed size_of c.args.account.now c.in-Ok.command ≡ None = sym ((digested same.0 c.in-Ok.command kind found.1.fits).allows c.args.account.now) ∙ sym (ap (allowed size_of c.args.account.now) same.1) ∙ may in
-    loading_command ps c.args.place c.args.account.now c.args.places.now.earlier.items c.args.places.now.last l (c.requires.place ps is) found.0 c.in-Ok.command c.in_ok-command.command same.0 c.change_if_allowed.new.self
+    loading_command ps c.args.place c.args.account.now c.args.places.now.earlier.items c.args.places.now.last l (c.requires.place ps is) found.0 c.in-Ok.command c.digest_command.new.command same.0 c.change_if_allowed.new.self
     (found.2 ps is) (c.requires.no_piece ps is) found.1 kind (c.is_complete.ensures.few c.if-not-is_complete.false) was_may (c.is_complete.ensures.stored l.before l.pieces c.if-not-is_complete.false) same.1
-    (c.in_ok-command.ensures.digests ps (ap told c.in-Ok.ensures.read.seen_same ∙ is)) (c.in_ok-change_if_allowed.ensures.ok may)
+    (c.in_ok-digest_command.ensures.digests ps (ap told c.in-Ok.ensures.read.seen_same ∙ is)) (c.in_ok-change_if_allowed.ensures.ok may)
 
 pub returns-in-Err-2-clause-foreign : goal.returns-in-Err-2-clause-foreign
 returns-in-Err-2-clause-foreign g c why is ps told_is =
     let l = c.requires.loading ps told_is in
     let found = c.in-Ok.ensures.found in
-    let digest = c.in_ok-command.ensures.same in
+    let digest = c.in_ok-digest_command.ensures.same in
     let kind = c.is_complete.ensures.kind c.if-not-is_complete.false in
     let same : Foreign c.args.place ≡ why = cc in
-    let refused = some_answered (allowed size_of c.args.account.now c.in_ok-command.command) _ (sym c.in-Err-2.is ∙ c.in_ok-change_if_allowed.ensures.answer) in
+    let refused = some_answered (allowed size_of c.args.account.now c.digest_command.new.command) _ (sym c.in-Err-2.is ∙ c.in_ok-change_if_allowed.ensures.answer) in
     let never = λ (m : MayStand l.before c.args.account.now c.in-Ok.command). refused (ap (allowed size_of c.args.account.now) digest.1 ∙ (digested digest.0 c.in-Ok.command kind found.1.fits).allows c.args.account.now ∙ m.allowed) in
     subst (λ u. NamesForeign ps u) same
     (no_place ps c.args.place c.args.account.now c.args.places.now.earlier.items c.args.places.now.last l (c.requires.place ps told_is) found.0 c.in-Ok.command (found.2 ps told_is) (c.requires.no_piece ps told_is) found.1 never)
