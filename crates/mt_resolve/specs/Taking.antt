@@ -1,15 +1,22 @@
 -- The records of a commit, taken one after another.
-use Rattle.std.specs.Prelude.{◌≡◌, ℕ, ◌<◌, ⊤, List, [], length, take, Option, Some, None, Result, Ok, Err}
+use Rattle.std.specs.Prelude.{◌≡◌, ℕ, ◌<◌, ⊤, Bool, true, false, List, [], length, take, Option, Some, None, Result, Ok, Err}
 use Rattle.mt_types.specs.declared.limits.TheConstants.{NUMBERS_A_COMMAND}
 use Rattle.mt_types.specs.declared.task.Fate.{Fate}
 use Rattle.mt_types.specs.declared.task.Fate.TheVariants as fate
 use Rattle.mt_types.specs.declared.task.TaskFailure.{TaskFailure}
 use Rattle.mt_types.specs.declared.task.TaskRecord.{TaskRecord}
+use Rattle.mt_types.specs.declared.task.TaskRecord.TheVariants as task_record
 use Rattle.mt_model.specs.Resolve.{Committing, Taken, fresh_place, take_records, with_parents}
 use Rattle.mt_model.specs.Rows.{Rows, IsTree, put_refusal}
 use Rattle.mt_resolve.specs.declared.records.Taking.{Taking}
 
 module _ {B : Type 0} where
+  -- a record names an output
+  abbrev pub is_output : TaskRecord B → Bool
+  is_output (task_record.Emit place reducer body) = true
+  is_output (task_record.Keep place body) = false
+  is_output (task_record.Ref name) = true
+
   -- how far the records have been taken, over these rows
   abbrev pub taken_of : Rows B → Taking B → Taken B
   taken_of rows t = record { rows = rows; items = t.items.items; made = t.made }

@@ -1,10 +1,11 @@
 //! What a commit makes of the records of a task.
-ghost use Rattle.std.specs.Prelude.{◌≡◌, ◌+◌, ◌<◌, ◌^◌, ◌++◌, ◌∷◌, [], IfOk, None, Ok, OnOk};
+ghost use Rattle.std.specs.Prelude.{◌≡◌, ◌+◌, ◌<◌, ◌^◌, ◌++◌, ◌∷◌, [], IfOk, None, Ok, OnOk, length};
+ghost use Rattle.std.specs.List.{filter};
 ghost use Rattle.mt_types.specs.declared.object.Entry.TheVariants as entry;
 ghost use Rattle.mt_model.specs.Names.{number_at};
 ghost use Rattle.mt_model.specs.Resolve.{and_then, fresh_place, kept, resolve, resolved, take_placed, take_record, take_records, take_reference, task_object, with_output};
 ghost use Rattle.mt_model.specs.Rows.{IsTree, object_at, put_refusal, with_row};
-ghost use Rattle.mt_resolve.specs.Taking.{AreReady, HasReady, IsReady, first_taken, taken_of, taken_or};
+ghost use Rattle.mt_resolve.specs.Taking.{AreReady, HasReady, IsReady, first_taken, is_output, taken_of, taken_or};
 ghost use Rattle.mt_resolve.specs.Undo.{LeadsBack, StaysBack};
 
 use crate::committing::Committing;
@@ -220,6 +221,16 @@ fn take<B: Duplicate>(
     }
 }
 
+// How many outputs records name, for which the list of a task's outputs has room at once: it is kept as it is.
+fn outputs_in<B>(records: &[TaskRecord<B>]) -> usize
+    ensures { result ≡ length (filter is_output records.now) }
+{
+    records
+        .iter()
+        .filter(|record| !matches!(**record, TaskRecord::Keep { .. }))
+        .count()
+}
+
 // Takes the records in order, up to the first that is refused.
 fn take_all<B: Duplicate>(
     alloc: Global,
@@ -232,7 +243,7 @@ fn take_all<B: Duplicate>(
     ensures back { IfOk result (λ r. LeadsBack r.0.changes.items tree.new tree.old) }
 {
     let mut taking = Taking {
-        items: Vec::new(alloc),
+        items: Vec::with_capacity(alloc, outputs_in(records))?,
         made: 0,
         changes: Vec::new(alloc),
     };

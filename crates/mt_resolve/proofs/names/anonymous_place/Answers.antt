@@ -1,8 +1,7 @@
-use Rattle.std.proofs.Common.{◌≡◌, [], ◌∷◌, ◌++◌, codes, sym, ap, subst, ◌∙◌}
+use Rattle.std.proofs.Common.{◌≡◌, [], ◌∷◌, codes, sym, ap, subst, ◌∙◌}
 use Rattle.mt_path.specs.AccountPath.{IsPath}
 use Rattle.mt_path.specs.declared.area.Area.TheVariants.{Jobs}
-use Rattle.mt_ident.specs.Identifiers.{identifier_text}
-use Rattle.mt_model.specs.Names.{job_name, output_prefix}
+use Rattle.mt_model.specs.Names.{job_name}
 use Rattle.mt_model.proofs.LawfulNames.{output_is_path}
 use Rattle.mt_resolve.specs.Committing.{IsCommitting}
 use Rattle.mt_resolve.proofs.names.anonymous_place.Goals as goal
