@@ -1,4 +1,4 @@
-"""A model of the store: what each request is answered, by docs/FORMATS.md and docs/MEANING.md, with Python's own libraries and
+"""A model of the store: what each request is answered, by docs/API.md and docs/MEANING.md, with Python's own libraries and
 none of the store's code. `Store.ask` takes the bytes of one request, and gives the reply's bytes.
 """
 import base64
@@ -40,6 +40,7 @@ ERRORS = {
     "NotEnoughSpace": (507, "the log is full"),
     "MethodNotAllowed": (405, "the method is not allowed here"),
     "Authorization": (403, "not this account"),
+    "OriginRefused": (403, "requests of web pages are not taken"),
     "RangeNotSatisfiable": (416, "the range cannot be met"),
     "InvalidDurabilityLevel": (400, "the durability level must be 1 to 6"),
     "MetadataTooLarge": (400, "the metadata are over the limit"),
@@ -337,6 +338,7 @@ class Store:
             path = read_path(self.login, head.target)
             refuse("NotBuilt", path[0] == b"jobs")
             refuse("MethodNotAllowed", head.method not in METHODS.split(", "), allow=METHODS)
+            refuse("OriginRefused", head.first("service-worker") is not None or head.method not in ("GET", "HEAD") and head.first("origin") is not None)
         except Refused:
             self.must_be_whole(body)
             raise

@@ -362,6 +362,26 @@ def targets(t):
     t.brief("GET", "/l/stor/a+?x")
 
 
+def browsers(t):
+    t.note("Pages of browsers: nothing is put or deleted where there is an Origin, and nothing of the body is kept; reads are answered.")
+    t.new()
+    t.put("/l/stor/a", b"hello", TEXT)
+    for origin in ("null", "http://localhost:8080", ""):
+        t.brief("PUT", "/l/stor/a", b"other", f"Origin: {origin}")
+    t.brief("PUT", "/l/stor/b", b"PUT /l/stor/smuggled HTTP/1.1\r\nContent-Length: 1\r\n\r\nx", "Origin: null")
+    t.brief("POST", "/l/stor/b", b"PUT /l/stor/smuggled HTTP/1.1\r\nContent-Length: 1\r\n\r\nx", "Origin: null")
+    t.brief("PUT", "/l/stor/d", b"", FOLDER, "Origin: null")
+    t.brief("PUT", "/l/stor/c", b"", LINK, "Location: /l/stor/a", "Origin: null")
+    t.brief("DELETE", "/l/stor/a", b"", "Origin: https://evil.example")
+    t.ask("PUT /l/stor/a HTTP/1.1\nOrigin: null", b"other")
+    t.brief("GET", "/l/stor/smuggled")
+    t.brief("GET", "/l/stor/a", b"", "Origin: null")
+    t.brief("HEAD", "/l/stor/a", b"", "Origin: null")
+    t.brief("GET", "/l/stor", b"", "Origin: null")
+    t.brief("GET", "/l/stor/a", b"", "Service-Worker: script")
+    t.ask("HEAD /l/stor/a HTTP/1.1\nService-Worker: script")
+
+
 def two_at_once(t):
     t.note("Two refusals at once, of a put of an object: the one that stands first in the order is answered, and nothing of the body is kept")
     print("# but where its digest alone refuses it.")
@@ -373,7 +393,7 @@ def two_at_once(t):
         "root": ("/l/stor", []), "parent": ("/l/stor/none/x", []), "object": ("/l/stor/o/x", []), "directory": ("/l/stor/d", []),
         "digest": (None, ["Content-MD5: x"]), "other digest": (None, ["Content-MD5: 1B2M2Y8AsgTpgAmY7PhCfg=="]), "type": (None, ["Content-Type: \x7f"[:-1] + "a\x80b"]),
         "metadata": (None, ["m-a: \x80"]), "level": (None, ["Durability-Level: 7"]), "size": (None, ["m-z: " + "z" * 4_094]),
-        "condition": (None, ["If-Match: x"]), "method": ("POST", []),
+        "condition": (None, ["If-Match: x"]), "method": ("POST", []), "origin": (None, ["Origin: null"]),
     }
     def pair(one, two):
         method, target, fields = "PUT", None, []
@@ -483,7 +503,7 @@ def main():
     print("# opened again. `ask`: the request above it, the length of the log and the number of commands after it, and the reply. `try`: a")
     print("# request in a row, METHOD TARGET BODY FIELD .., and the status with what the reply holds, or the part of an object that it names.")
     t = Table()
-    for part in (objects, tree, pages, conditions, ranges, digests, targets, two_at_once, space, endings, faults):
+    for part in (objects, tree, pages, conditions, ranges, digests, targets, browsers, two_at_once, space, endings, faults):
         part(t)
 
 

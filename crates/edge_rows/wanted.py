@@ -206,10 +206,13 @@ def doors(t):
 
 
 def outside():
-    say("A clock that stands gives its moment; the last one is 9999-12-31T23:59:59Z.")
+    say("A clock that stands gives its moment, at each call; the last one is 9999-12-31T23:59:59Z. One of three moments gives them, one a call,", "and then the one behind them.")
     for moment in [0, 1_700_000_000, LAST_MOMENT]:
-        row(f"clock {moment}", moment)
+        row(f"clock {moment}", f"{moment} {moment}")
     row("last-moment", LAST_MOMENT)
+    for calls, listed, later in [(2, [1, 2, 3], 4), (1, [7, 8, 9], 0), (3, [30, 20, 10], 5), (6, [0, LAST_MOMENT, 1], 1_700_000_000), (4, [5, 5, 5], LAST_MOMENT)]:
+        given = [listed[n] if n < len(listed) else later for n in range(calls)]
+        row(f"moments {calls} {' '.join(str(m) for m in listed)} {later}", " ".join(str(m) for m in given) or "\\e")
 
 
 def main():

@@ -462,8 +462,83 @@ def serves(t):
     t.session(get("d"), get("e"))
 
 
+def clients(t, *links):
+    """Links at a door, each in its pieces."""
+    for pieces in links:
+        for last, piece in enumerate(pieces, 1 - len(pieces)):
+            t.given(*piece)
+            print("link" if last == 0 else "piece")
+
+
+def played(t, order, *links):
+    """What is said to each link where their pieces come in this order."""
+    said, left = [b""] * len(links), [list(pieces) for pieces in links]
+    for number in order:
+        said[number - 1] += t.replies(*left[number - 1].pop(0))
+    return said
+
+
+def turns(t):
+    t.note("A door that tells nothing: links come by turns, piece by piece, over one account, and each gets its own replies. It wakes in between.")
+    t.new()
+    links = ([[put("a", b"1")], [get("b")], [get("a")]], [[put("b", b"2")], [get("a")]], [[get("")], [put("a", b"3"), get("a")], [delete("b")], [get("b")]])
+    clients(t, *links)
+    print("order 1 2 wake 1 2 3 wake wake 3 1 3 3")
+    t.run(f"{SERVE} 3", 0, links=played(t, [1, 2, 1, 2, 3, 3, 1, 3, 3], *links))
+    t.note("A link of one turn, and one whose pieces have many messages.")
+    links = ([[get("a")]], [[put("c"), get("c"), get("a")], [delete("c"), get("c")]])
+    clients(t, *links)
+    print("order 2 1 2")
+    t.run(f"{SERVE} 2", 0, links=played(t, [2, 1, 2], *links))
+    t.note("One link closes in the middle of its piece, and is over; one is refused, and one is cut off: the others go on.")
+    close = get("a", "Connection: close")
+    clients(t, [[put("d")], [close, put("unread")], [put("unread")]], [[b"GE(T\r\n\r\n"]], [[put("cut")[:-1]]], [[get("d")], [get("a"), get("d")]])
+    print("order 1 2 4 1 3 1 4")
+    said = [t.replies(put("d")), refusal("BadRequest", t.store.count), b"", t.replies(get("d"))]
+    said[0] += t.replies(close)
+    said[3] += t.replies(get("a"), get("d"))
+    t.run(f"{SERVE} 4", 0, links=said)
+    t.note("A read of one link fails in its second turn, and a write of another in its first.")
+    t.given(put("e"))
+    print("piece")
+    t.given(put("f"))
+    print("fail reads 0")
+    print("link")
+    t.given(put("g"))
+    print("fail writes 0")
+    print("link")
+    clients(t, [[get("e")], [get("g")]])
+    print("order 1 2 3 1 3")
+    said = [t.replies(put("e"))]
+    t.store.ask(put("g"))
+    t.run(f"{SERVE} 3", 0, links=said + [b"", t.replies(get("e"), get("g"))])
+    t.note("A fault of the disk in the second turn of a link ends the serve: what was answered is there.")
+    links = ([[put("h")], [put("i")], [put("unread")]], [[get("none")], [put("unread")]])
+    clients(t, *links)
+    print("order 1 2 1 2 1")
+    print(f"fail disk {REOPENING + 8}")
+    t.run(f"{SERVE} 2", 5, links=played(t, [1, 2], *links))
+    t.session(get("h"), get("i"))
+    t.note("As many links were taken as are asked for, and two of them are kept: no more is taken, and they are served until they are over.")
+    links = ([[get("h")], [get("a")], [put("j")]], [[get("none")], [get("j")]], [[put("unread")]])
+    clients(t, *links)
+    print("order 1 2 3 1 wake 3 1 2")
+    t.run(f"{SERVE} 2", 0, links=played(t, [1, 2, 1, 1, 2], *links))
+    t.session(get("unread"))
+    t.note("The door fails where two links are kept and fewer were taken than are asked for; and where all were taken it can't fail.")
+    links = ([[put("k")], [put("unread")]], [[get("k")], [put("unread")]])
+    clients(t, *links)
+    print("order 1 2 fault 1 2")
+    t.run(f"{SERVE} 3", 10, links=played(t, [1, 2], *links))
+    links = ([[get("k")], [put("l")]], [[get("l")], [get("l")]])
+    clients(t, *links)
+    print("order 2 1 fault 1 fault 2")
+    t.run(f"{SERVE} 2", 0, links=played(t, [2, 1, 1, 2], *links))
+    t.session(get("unread"), get("l"))
+
+
 def main():
-    for part in (objects, routes, words, stores, limits, crashes, ends, serves):
+    for part in (objects, routes, words, stores, limits, crashes, ends, serves, turns):
         part(TABLE)
 
 

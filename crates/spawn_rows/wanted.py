@@ -28,14 +28,15 @@ def say(*lines):
 class Spawner:
     """Children by a script; `never` is one that never fails, whose children all end at once."""
 
-    def __init__(self, waits=(), otherwise=(), starts_fail=(), waits_fail=(), reads_fail=(), too_large=None, never=False):
-        for name, numbers in [("waits", waits), ("otherwise", otherwise), ("starts-fail", starts_fail), ("waits-fail", waits_fail), ("reads-fail", reads_fail)]:
+    def __init__(self, waits=(), otherwise=(), starts_fail=(), waits_fail=(), reads_fail=(), waits_lose=(), too_large=None, never=False):
+        for name, numbers in [("waits", waits), ("otherwise", otherwise), ("starts-fail", starts_fail), ("waits-fail", waits_fail), ("waits-lose", waits_lose), ("reads-fail", reads_fail)]:
             if numbers:
                 row(" ".join([name] + [str(n) for n in numbers]))
         if too_large:
             row(f"too-large {too_large}")
         row("never-fails" if never else "spawner")
         self.plan = (waits, otherwise, starts_fail, waits_fail, reads_fail)
+        self.waits_lose = waits_lose
         self.too_large, self.never = too_large, never
         self.live, self.held = [], None
         self.starts = self.tickets = self.waited = self.reads = self.failed = self.in_vain = self.company = 0
@@ -59,24 +60,26 @@ class Spawner:
             self.tickets += 1
         row(" ".join(["start-cut" if cut else "start", word(run), base, word(data), *map(word, assets)]), answer)
 
-    def wait(self):
+    def wait(self, said="wait"):
         number = self.waited
         if not self.never:
             self.waited += 1
         if not self.never and number in self.plan[3]:
             child = self.live.pop(0)
             self.failed += 1
-            return row("wait", f"Failed {child[0]}")
+            return row(said, f"Failed {child[0]}")
+        if not self.never and number in self.waits_lose:
+            return row(said, f"Lost {self.live.pop(0)[0]}")
         due = [child for child in self.live if child[1] <= number]
         if not due:
             self.in_vain += 1
-            return row("wait", "NotYet")
+            return row(said, "NotYet")
         self.company += len(self.live)
         self.live.remove(due[0])
         ticket, _, status, run, data, base = due[0]
         self.held = ("", []) if self.too_large else (data, [base])
         made = f"too large {self.too_large}" if self.too_large else f"out {len(data)}, files 3:{len(base)}"
-        row("wait", f"Ended {ticket}: status {status}, stderr {shown(run)}, {made}")
+        row(said, f"Ended {ticket}: status {status}, stderr {shown(run)}, {made}")
 
     def piece(self, part, at, count):
         """What one read gives: None where it fails."""
@@ -167,6 +170,14 @@ def orders():
             s.wait()
             s.release()
         s.counts()
+    say("The same of three that each end at another wait, by looks alone, and by looks and waits in turn: a spawner in memory never waits.")
+    for words in [("look", "look"), ("look", "wait")]:
+        for waits in [(0, 1, 2), (0, 2, 1), (1, 0, 2), (2, 0, 1), (1, 2, 0), (2, 1, 0), (3, 3, 3)]:
+            s = three(*waits)
+            for number in range(3 + max(max(waits) - 2, 0)):
+                s.wait(words[number % 2])
+                s.release()
+            s.counts()
 
 
 def failures():
@@ -191,6 +202,15 @@ def failures():
     s.wait()
     s.release()
     s.wait()
+    s.release()
+    s.counts()
+    say("A wait that is out of memory with a child: the one that was started first is gone, no fault is counted, and the others are found.")
+    s = three(2, 1, 0, waits_lose=(0,))
+    s.wait()
+    s.counts()
+    s.wait()
+    s.release()
+    s.wait("look")
     s.release()
     s.counts()
     say("A child that is killed is not waited for; the others are.")

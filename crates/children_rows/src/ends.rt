@@ -35,20 +35,22 @@ fn put_left(out: &mut String, ticket: Ticket, left: &Left) -> Result<(), Stop> {
     Ok(())
 }
 
-/// Waits for a child.
+/// Waits for a child, or only looks.
 pub(crate) fn put_wait(
     spawner: &mut Commands,
     alloc: Global,
+    patient: bool,
     out: &mut String,
 ) -> Result<(), Stop> {
     if spawner.is_holding() || spawner.live() == 0 {
         out.push_str("NoWait")?;
         return Ok(());
     }
-    match spawner.wait(alloc) {
+    match spawner.wait(alloc, patient) {
         Waited::Ended { ticket, left } => put_left(out, ticket, &left)?,
         Waited::NotYet => out.push_str("NotYet")?,
         Waited::Failed(ticket) => write!(out, "Failed {}", ticket.number)?,
+        Waited::Lost(ticket) => write!(out, "Lost {}", ticket.number)?,
         Waited::Memory => out.push_str("OutOfMemory")?,
     }
     Ok(())

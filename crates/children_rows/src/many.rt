@@ -28,7 +28,7 @@ fn end_one(spawner: &mut Commands, alloc: Global) -> bool {
     if spawner.is_holding() || spawner.live() == 0 {
         return false;
     }
-    let waited = spawner.wait(alloc);
+    let waited = spawner.wait(alloc, true);
     spawner.release();
     matches!(waited, Waited::Ended { left, .. } if left.status == 0)
 }

@@ -73,7 +73,8 @@ impl Rows for Plays {
                 Ok(())
             }
             "start" => starts::put_start(self, alloc, row, out),
-            "wait" => ends::put_wait(&mut self.spawner, alloc, out),
+            "wait" => ends::put_wait(&mut self.spawner, alloc, true, out),
+            "look" => ends::put_wait(&mut self.spawner, alloc, false, out),
             "read" => ends::put_read(&mut self.spawner, alloc, row, out),
             "all" => ends::put_all(&mut self.spawner, row, out),
             "release" => ends::put_release(&mut self.spawner, out),

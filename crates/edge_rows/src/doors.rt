@@ -1,9 +1,8 @@
 //! Doors, at which each link that is given is served and given back.
-ghost use Rattle.std.specs.Prelude.{◌≡◌, length};
-ghost use Rattle.std.specs.Option.{ForSome};
+ghost use Rattle.std.specs.Prelude.{◌≡◌, ◌+◌};
 
 use crate::streams::{put_bytes, put_echo};
-use mt_edge::{Door, MemDoor, MemLink};
+use mt_edge::{Door, MemDoor, MemLink, Next};
 use std::alloc::{AllocError, Global};
 use std::marker::Model;
 
@@ -24,18 +23,26 @@ impl Model for Served {
     ghost invariant = { λ s. length s.door.given_back ≡ s.door.taken };
 }
 
-/// Serves the next link of a door, which writes back what is read from it, and prints what that did.
-pub fn visit<D: Door>(door: &mut D, out: &mut String) -> Result<(), AllocError>
-    requires { ForSome (D.given_back door.old) (λ links. length links ≡ D.taken door.old) }
-    ensures { ForSome (D.given_back door.new) (λ links. length links ≡ D.taken door.new) }
+// Serves a link of a door, which writes back what is read from it, gives it back, and prints what that did.
+fn serve<D: Door>(door: &mut D, mut link: D::Link, out: &mut String) -> Result<(), AllocError>
+    requires { D.over door.old + D.kept door.old + 1 ≡ D.taken door.old }
+    ensures { D.over door.new + D.kept door.new ≡ D.taken door.new }
 {
-    match door.next() {
-        Some(mut link) => {
-            let done = put_echo(&mut link, out);
-            door.done(link);
-            done
-        }
-        None => out.push_str("None"),
+    let done = put_echo(&mut link, out);
+    door.done(link);
+    done
+}
+
+/// Serves the next link of a door, a new one where none is kept, and prints what that did.
+pub fn visit<D: Door>(door: &mut D, out: &mut String) -> Result<(), AllocError>
+    requires { D.over door.old + D.kept door.old ≡ D.taken door.old }
+    ensures { D.over door.new + D.kept door.new ≡ D.taken door.new }
+{
+    match door.next(true) {
+        Next::New(link) => serve(door, link, out),
+        Next::Again(link) => serve(door, link, out),
+        Next::Woken => out.push_str("Woken"),
+        Next::Failed => out.push_str("None"),
     }
 }
 

@@ -175,7 +175,7 @@ impl Rows for Edges {
             b"as" => self.form = form_of(row.bytes(1)?)?,
             b"streams" => self.put_streams(out)?,
             _ => {
-                if outside::answer(row, out)? || self.at_door(alloc, row, out)? {
+                if outside::answer(alloc, row, out)? || self.at_door(alloc, row, out)? {
                     return Ok(());
                 }
                 if !self.call(alloc, row, out)? {

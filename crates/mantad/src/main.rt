@@ -7,7 +7,7 @@
 mod standard;
 mod tell;
 
-ghost use Rattle.std.specs.Prelude.{◌≤◌, length, IfSome};
+ghost use Rattle.std.specs.Prelude.{◌≡◌, ◌≤◌, ◌+◌, IfSome};
 ghost use Rattle.std.specs.Option.{ForSome};
 ghost use Rattle.mt_base.specs.declared.limits.TheConstants.{LAST_MOMENT};
 ghost use Rattle.mt_disk.specs.CrashModel.{IsAtRest};
@@ -64,7 +64,8 @@ fn call<D: Disk, C: Clock, W: Door>(
 ) -> Result<u8, AllocError>
     requires rest { IsAtRest D.seen D.may_leave disk.old }
     requires fit { ForSome (D.seen disk.old) Fit }
-    requires door { ForSome (W.given_back door.old) (λ links. length links ≤ W.taken door.old) }
+    requires door { W.over door.old + W.kept door.old ≡ W.taken door.old }
+    requires none_kept { W.kept door.old ≡ 0 }
 {
     let alloc = rt.alloc();
     let mut source = StdSource::new(alloc, rt.stdin())?;
@@ -92,7 +93,8 @@ fn call_at<D: Disk, W: Door>(
 ) -> Result<u8, AllocError>
     requires rest { IsAtRest D.seen D.may_leave disk.old }
     requires fit { ForSome (D.seen disk.old) Fit }
-    requires door { ForSome (W.given_back door.old) (λ links. length links ≤ W.taken door.old) }
+    requires door { W.over door.old + W.kept door.old ≡ W.taken door.old }
+    requires none_kept { W.kept door.old ≡ 0 }
     requires moment { IfSome at (λ moment. moment ≤ LAST_MOMENT) }
 {
     match at {

@@ -1,6 +1,8 @@
 -- What a device hands on through an adapter that counts its faults.
-use Rattle.std.specs.Prelude.{ℕ, ◌+◌, min, List, take, Option, Some, None, Result, Ok, Err}
+use Rattle.std.specs.Prelude.{◌≡◌, ℕ, ◌+◌, min, List, take, Option, Result, Ok, Err, ⊤}
 use Rattle.std.specs.Io.KnownBytes.{Consumes, Appends, Keeps, IsAtEnd}
+use Rattle.mt_edge.specs.declared.next.Next.{Next}
+use Rattle.mt_edge.specs.declared.next.Next.TheVariants as came
 use Rattle.mt_edge.specs.declared.source.ReadStep.{ReadStep}
 use Rattle.mt_edge.specs.declared.source.ReadStep.TheVariants as read
 use Rattle.mt_edge.specs.declared.sink.WriteStep.{WriteStep}
@@ -38,19 +40,34 @@ pub record LinkState : Type 0 where
 abbrev pub first_link : LinkState
 first_link = record { read_faults = 0; write_faults = 0 }
 
--- the counts of a door: of links that it gave, and of calls that failed
+-- the counts of a door: of links that it gave, of those that are over, and of calls that failed
 pub record DoorState : Type 0 where
   pub taken : ℕ
+  pub over : ℕ
   pub faults : ℕ
 
 -- a door that has given no link yet
 abbrev pub first_door : DoorState
-first_door = record { taken = 0; faults = 0 }
+first_door = record { taken = 0; over = 0; faults = 0 }
+
+-- a link of which no call has failed, or a call that failed
+abbrev pub IsFirst : Next LinkState → Type 0
+IsFirst (came.New link) = link ≡ first_link
+IsFirst (came.Again link) = ⊥
+IsFirst came.Woken = ⊥
+IsFirst came.Failed = ⊤
 
 -- the counts after a call for a link: one that gave none has failed
-abbrev pub after_next : {L : Type 0} → DoorState → Option L → DoorState
-after_next d (Some link) = record d { taken = d.taken + 1 }
-after_next d None = record d { faults = one_more d.faults }
+abbrev pub after_next : {L : Type 0} → DoorState → Next L → DoorState
+after_next d (came.New link) = record d { taken = d.taken + 1 }
+after_next d (came.Again link) = d
+after_next d came.Woken = d
+after_next d came.Failed = record d { faults = one_more d.faults }
+
+-- a clock of the system: the last moment that it gave, at first 0, and how often it was asked
+pub record SystemClockState : Type 0 where
+  pub last : ℕ
+  pub asked : ℕ
 
 -- a read into a piece, where the device knows what is left: what it gave came into the piece, and nothing is lost
 abbrev pub HandsOn : Option (List ℕ) → List ℕ → ReadStep → Option (List ℕ) → Type 0

@@ -4,7 +4,7 @@ ghost use Rattle.mt_adapters.specs.Device.{first_link};
 
 use crate::limits::Limits;
 use crate::tcp_link::TcpLink;
-use mt_edge::Door;
+use mt_edge::{Door, Next};
 use std::alloc::{AllocError, Global};
 use std::io::ErrorKind;
 use std::marker::Model;
@@ -21,8 +21,8 @@ const PAUSE: u64 = 100;
 
 /// Connections to an address, which is bound at the first call of `next`: `HOST:PORT`, where the host is an IPv4 address, an IPv6
 /// address in brackets or a name. At port 0 the system picks one, and standard error says which. A link that fails in being set
-/// up is passed over, 64 in one call at most. It tells neither the links that wait nor those that were given back, which are
-/// ended in an orderly way and closed.
+/// up is passed over, 64 in one call at most. It tells neither the links that wait nor those that were given back: each is
+/// ended in an orderly way and closed, and is over.
 #[derive(Drop)]
 pub struct TcpDoor<R> {
     rt: R,
@@ -31,6 +31,7 @@ pub struct TcpDoor<R> {
     listener: Option<Rc<TcpListener>>,
     limits: Limits,
     taken: u64,
+    over: u64,
     faults: u64,
     failure: Option<io::Error>,
 }
@@ -41,7 +42,7 @@ impl<R> Model for TcpDoor<R> {
 
     ghost Value = { DoorState };
 
-    ghost view = { λ d. record { taken = d.taken; faults = d.faults } };
+    ghost view = { λ d. record { taken = d.taken; over = d.over; faults = d.faults } };
 
     ghost invariant = { λ d. IsSome d.failure → 0 < d.faults };
 }
@@ -92,7 +93,7 @@ fn first_set_up<R: Clock>(
 }
 
 impl<R> TcpDoor<R> {
-    ghost use Rattle.std.specs.Prelude.{◌≡◌, ◌<◌, IfOk, IsSome, None};
+    ghost use Rattle.std.specs.Prelude.{◌≡◌, ◌<◌, IfOk, IsSome};
     ghost use Rattle.mt_adapters.specs.Device.{first_door, one_more};
 
     /// A door of an address, which has given no link yet. It makes no call of the system.
@@ -108,6 +109,7 @@ impl<R> TcpDoor<R> {
             listener: None,
             limits: Limits::usual(),
             taken: 0,
+            over: 0,
             faults: 0,
             failure: None,
         })
@@ -130,6 +132,7 @@ impl<R> TcpDoor<R> {
             listener: Some(listener),
             limits: Limits::usual(),
             taken: 0,
+            over: 0,
             faults: 0,
             failure: None,
         })
@@ -158,15 +161,15 @@ impl<R> TcpDoor<R> {
     }
 
     // Counts a call that failed, and keeps the first.
-    fn failed(&mut self, error: io::Error) -> Option<TcpLink>
-        ensures none { result ≡ None }
+    fn failed(&mut self, error: io::Error) -> Next<TcpLink>
+        ensures none { result ≡ Next.Failed }
         ensures counted { self.new ≡ record self.old { faults = one_more self.old.faults } }
     {
         self.faults = self.faults.saturating_add(1);
         if self.failure.is_none() {
             self.failure = Some(error);
         }
-        None
+        Next::Failed
     }
 }
 
@@ -193,8 +196,8 @@ impl<R: Net<Listener = TcpListener, Stream = TcpStream> + Clock + Eprint> TcpDoo
 }
 
 impl<R: Net<Listener = TcpListener, Stream = TcpStream> + Clock + Eprint> Door for TcpDoor<R> {
-    ghost use Rattle.std.specs.Prelude.{◌≡◌, None, IfSome};
-    ghost use Rattle.mt_adapters.specs.Device.{after_next, first_link};
+    ghost use Rattle.std.specs.Prelude.{◌≡◌, ◌+◌, ◌<◌, None, true};
+    ghost use Rattle.mt_adapters.specs.Device.{IsFirst, after_next};
 
     type Link = TcpLink;
 
@@ -204,27 +207,39 @@ impl<R: Net<Listener = TcpListener, Stream = TcpStream> + Clock + Eprint> Door f
 
     ghost taken = { λ d. d.taken };
 
+    ghost over = { λ d. d.over };
+
+    ghost kept = { λ d. 0 };
+
     ghost door_faults = { λ d. d.faults };
 
-    fn next(&mut self) -> Option<TcpLink>
-        ensures first { IfSome result (λ link. link ≡ first_link) }
+    // No link is kept, so a new one is asked for.
+    fn next(&mut self, fresh: bool) -> Next<TcpLink>
+        requires back { self.old.over ≡ self.old.taken }
+        requires some { fresh ≡ true }
+        ensures first { IsFirst result }
         ensures after { self.new ≡ after_next self.old result }
     {
+        let _ = fresh;
         let Some(taken) = self.taken.checked_add(1) else {
             return self.failed(io::Error::from(ErrorKind::QuotaExceeded));
         };
         match self.open() {
             Ok(link) => {
                 self.taken = taken;
-                Some(link)
+                Next::New(link)
             }
             Err(error) => self.failed(error),
         }
     }
 
-    fn done(&mut self, link: TcpLink)
-        ensures { self.new ≡ self.old }
+    fn done(&mut self, link: TcpLink) -> bool
+        requires { self.old.over < self.old.taken }
+        ensures closed { result ≡ true }
+        ensures after { self.new ≡ record self.old { over = self.old.over + 1 } }
     {
         link.end(&self.rt);
+        self.over += 1;
+        true
     }
 }

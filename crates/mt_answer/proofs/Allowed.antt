@@ -81,17 +81,18 @@ unless_late None wish asked out = out
 unless_late (Some code) wish asked out = tt
 
 -- behind a path that is one
-at_area : (jobs : Bool) (method : Option Refused) (wish : Wish) (late : Option ErrorCode) (asked : Doing) → (jobs ≡ false → IsOutside asked)
-    → IsOutside (request_by (first_of (None ∷ option_map plain (order.refuse_if jobs error.NotBuilt) ∷ method ∷ [])) wish (unless late asked)).doing
-at_area true method wish late asked out = tt
-at_area false (Some refused) wish late asked out = tt
-at_area false None wish late asked out = unless_late late wish asked (out refl)
+at_area : (jobs : Bool) (method page : Option Refused) (wish : Wish) (late : Option ErrorCode) (asked : Doing) → (jobs ≡ false → IsOutside asked)
+    → IsOutside (request_by (first_of (None ∷ option_map plain (order.refuse_if jobs error.NotBuilt) ∷ method ∷ page ∷ [])) wish (unless late asked)).doing
+at_area true method page wish late asked out = tt
+at_area false (Some refused) page wish late asked out = tt
+at_area false None (Some refused) wish late asked out = tt
+at_area false None None wish late asked out = unless_late late wish asked (out refl)
 
 by_path : (p : Result AccountPath ErrorCode) (login : List ℕ) (head : Head)
-    → IsOutside (request_by (first_of (option_map plain (target.path_refusal p) ∷ option_map plain (order.refuse_if (target.is_later p) error.NotBuilt) ∷ method_refusal head.method ∷ []))
+    → IsOutside (request_by (first_of (option_map plain (target.path_refusal p) ∷ option_map plain (order.refuse_if (target.is_later p) error.NotBuilt) ∷ method_refusal head.method ∷ option_map plain (target.origin_refusal head) ∷ []))
     (wish_of head.fields) (asked_at p login head)).doing
 by_path (Ok p) login head =
-    at_area (target.is_jobs p.area) (method_refusal head.method) (wish_of head.fields) (late_of login head) (doing_of p login head)
+    at_area (target.is_jobs p.area) (method_refusal head.method) (option_map plain (target.origin_refusal head)) (wish_of head.fields) (late_of login head) (doing_of p login head)
     (λ apart. by_method (bytes_eq head.method (codes "PUT")) (bytes_eq head.method (codes "DELETE")) p login head (same_area p.area apart))
 by_path (Err code) login head = tt
 

@@ -48,4 +48,5 @@ abbrev pub faults_after_wait : ℕ → Waited → ℕ
 faults_after_wait faults (waited.Ended ticket left) = faults
 faults_after_wait faults waited.NotYet = faults
 faults_after_wait faults (waited.Failed ticket) = one_more faults
+faults_after_wait faults (waited.Lost ticket) = faults
 faults_after_wait faults waited.Memory = faults

@@ -337,8 +337,8 @@ impl<R: Files<File = File> + Processes<Started = SystemProcess> + Clock> ShSpawn
         }
     }
 
-    // Waits until a child has ended, or for as long as was asked for.
-    fn await_one(&mut self) -> Option<Found>
+    // Looks for a child that has ended; patient, until one has, or for as long as was asked for.
+    fn await_one(&mut self, patient: bool) -> Option<Found>
         ensures same { self.new ≡ self.old }
         ensures there { IfSome result (λ f. f.place < length self.old.live) }
     {
@@ -348,7 +348,7 @@ impl<R: Files<File = File> + Processes<Started = SystemProcess> + Clock> ShSpawn
             if let Some(found) = self.children.first_ended() {
                 return Some(found);
             }
-            if self.patience.is_some_and(|most| waited >= most) {
+            if !patient || self.patience.is_some_and(|most| waited >= most) {
                 return None;
             }
             thread::sleep(&self.rt, pause);
@@ -422,7 +422,7 @@ impl<R: Files<File = File> + Processes<Started = SystemProcess> + Clock> ShSpawn
             Err(error) => {
                 self.lose(number);
                 if is_memory(&error) {
-                    return Waited::Memory;
+                    return Waited::Lost(ticket);
                 }
                 self.fail(error);
                 Waited::Failed(ticket)
@@ -505,13 +505,13 @@ impl<R: Files<File = File> + Processes<Started = SystemProcess> + Clock> Spawner
         }
     }
 
-    fn wait(&mut self, alloc: Global) -> Waited
+    fn wait(&mut self, alloc: Global, patient: bool) -> Waited
         requires some { 0 < length self.old.live }
         requires free { self.old.held ≡ None }
         ensures wait { Waits (λ fate raw. ⊤) (seen_of self.old) result self.new.held None (seen_of self.new) }
         ensures counted { self.new.faults ≡ faults_after_wait self.old.faults result }
     {
-        match self.await_one() {
+        match self.await_one(patient) {
             Some(found) => self.take(alloc, found),
             None => {
                 self.children.wait_all();

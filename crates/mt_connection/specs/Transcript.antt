@@ -28,6 +28,10 @@ pub record Turn : Type 0 where
 abbrev pub no_turn : Turn
 no_turn = record { added = []; grew = 0; missed = 0 }
 
+-- the moments that a clock of this rule may give, at whichever of its calls
+abbrev pub at_any_call : {R : Type 0} → (gives : R → ℕ → ℕ → Type 0) → R → ℕ → Type 0
+at_any_call gives rule moment = (call : ℕ) × gives rule call moment
+
 -- what stays the same while a connection is served
 pub record Setting : Type 1 where
   -- whether the link tells what is left to be read, and whether the disk tells what it holds

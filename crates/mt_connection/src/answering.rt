@@ -9,7 +9,7 @@ ghost use Rattle.mt_log.specs.LogState.{Stands};
 ghost use Rattle.mt_model.specs.State.{State};
 ghost use Rattle.mt_connection.specs.Sides.{LinkSide, sides};
 ghost use Rattle.mt_connection.specs.Steps.{Receives, Stepped};
-ghost use Rattle.mt_connection.specs.Transcript.{Over, setting};
+ghost use Rattle.mt_connection.specs.Transcript.{Over, at_any_call, setting};
 ghost use Rattle.mt_connection.specs.declared.receive.Received.TheVariants as received;
 
 use crate::end::{ConnectionEnd, Step};
@@ -42,7 +42,7 @@ fn converse<D: Disk, C: Clock, L: Both>(
     // From before its head.
     ensures step { (base : State Bytes) (h : History) (before : LinkSide) → Over (D.seen disk.old) engine.old base h
         → Receives (received.Head head) before (record { left = L.left link.old; got = L.got link.old; read_faults = L.read_faults link.old; write_faults = L.write_faults link.old })
-        → (k : History) × Stepped (setting (is_some before.left) (is_some (D.seen disk.old)) (C.gives (C.rule clock.old)) login.now engine.old.log.limit base) (D.may_leave disk.new)
+        → (k : History) × Stepped (setting (is_some before.left) (is_some (D.seen disk.old)) (at_any_call C.gives (C.rule clock.old)) login.now engine.old.log.limit base) (D.may_leave disk.new)
         (sides before h (D.seen disk.old) (D.faults disk.old) engine.old) result
         (sides (record { left = L.left link.new; got = L.got link.new; read_faults = L.read_faults link.new; write_faults = L.write_faults link.new }) k (D.seen disk.new) (D.faults disk.new) engine.new)
         × (engine.new.log.closed ≡ false → Over (D.seen disk.new) engine.new base k)
@@ -102,7 +102,7 @@ pub fn exchange<D: Disk, C: Clock, L: Both>(
     // Over each history that the disk stands for, where it tells what it holds: the step, the history that it leads to, and what a
     // crash at any moment of it leaves.
     ensures step { (base : State Bytes) (h : History) → Over (D.seen disk.old) engine.old base h
-        → (k : History) × Stepped (setting (is_some (L.left link.old)) (is_some (D.seen disk.old)) (C.gives (C.rule clock.old)) login.now engine.old.log.limit base) (D.may_leave disk.new)
+        → (k : History) × Stepped (setting (is_some (L.left link.old)) (is_some (D.seen disk.old)) (at_any_call C.gives (C.rule clock.old)) login.now engine.old.log.limit base) (D.may_leave disk.new)
         (sides (record { left = L.left link.old; got = L.got link.old; read_faults = L.read_faults link.old; write_faults = L.write_faults link.old }) h (D.seen disk.old) (D.faults disk.old) engine.old) result
         (sides (record { left = L.left link.new; got = L.got link.new; read_faults = L.read_faults link.new; write_faults = L.write_faults link.new }) k (D.seen disk.new) (D.faults disk.new) engine.new)
         × (engine.new.log.closed ≡ false → Over (D.seen disk.new) engine.new base k)

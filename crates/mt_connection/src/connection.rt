@@ -9,7 +9,7 @@ ghost use Rattle.mt_model.specs.State.{State};
 ghost use Rattle.mt_connection.specs.Endings.{Images, Served};
 ghost use Rattle.mt_connection.specs.Outcomes.{ByEnd};
 ghost use Rattle.mt_connection.specs.Sides.{sides};
-ghost use Rattle.mt_connection.specs.Transcript.{Over, setting};
+ghost use Rattle.mt_connection.specs.Transcript.{Over, at_any_call, setting};
 
 use crate::answering::exchange;
 use crate::end::{ConnectionEnd, Step};
@@ -35,7 +35,7 @@ pub fn serve_connection<D: Disk, C: Clock, L: Both>(
     // Over each history that the disk stands for, where it tells what it holds: what was said, the history that it led to, what a
     // crash at its end leaves, and what one at any moment of it leaves.
     ensures served { (base : State Bytes) (h : History) → Over (D.seen disk.old) engine.old base h
-        → (k : History) × (s : Served (setting (is_some (L.left link.old)) (is_some (D.seen disk.old)) (C.gives (C.rule clock.old)) login.now engine.old.log.limit base) most
+        → (k : History) × (s : Served (setting (is_some (L.left link.old)) (is_some (D.seen disk.old)) (at_any_call C.gives (C.rule clock.old)) login.now engine.old.log.limit base) most
         (sides (record { left = L.left link.old; got = L.got link.old; read_faults = L.read_faults link.old; write_faults = L.write_faults link.old }) h (D.seen disk.old) (D.faults disk.old) engine.old) result
         (sides (record { left = L.left link.new; got = L.got link.new; read_faults = L.read_faults link.new; write_faults = L.write_faults link.new }) k (D.seen disk.new) (D.faults disk.new) engine.new))
         × (is_some (D.seen disk.old) ≡ true → Images result base k s.named (D.may_leave disk.new))

@@ -1,3 +1,5 @@
+pub mod Clocks
+pub mod Doors
 pub mod Memory
 pub mod MemoryDoor
 pub mod Stream

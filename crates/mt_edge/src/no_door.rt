@@ -1,5 +1,5 @@
 //! A door that gives no link.
-use crate::{Door, MemLink};
+use crate::{Door, MemLink, Next};
 use std::marker::Model;
 
 /// A door at which no link ever waits, seen as the count of its faults.
@@ -28,7 +28,8 @@ impl NoDoor {
 }
 
 impl Door for NoDoor {
-    ghost use Rattle.std.specs.Prelude.{◌≡◌, ◌+◌, min, [], Some, None};
+    ghost use Rattle.std.specs.Prelude.{◌≡◌, ◌+◌, min, [], true, Some, None};
+    ghost use Rattle.mt_edge.specs.declared.next.Next.{Next};
 
     type Link = MemLink;
 
@@ -38,18 +39,24 @@ impl Door for NoDoor {
 
     ghost taken = { λ d. 0 };
 
+    ghost over = { λ d. 0 };
+
+    ghost kept = { λ d. 0 };
+
     ghost door_faults = { λ d. d };
 
-    fn next(&mut self) -> Option<MemLink>
-        ensures none { result ≡ None }
+    fn next(&mut self, _fresh: bool) -> Next<MemLink>
+        ensures none { result ≡ Next.Failed }
         ensures counted { self.new ≡ min 18446744073709551615 (self.old + 1) }
     {
         self.faults = self.faults.saturating_add(1);
-        None
+        Next::Failed
     }
 
     // No link was taken, so none is given back.
-    fn done(&mut self, _link: MemLink) {
-        unreachable!()
+    fn done(&mut self, _link: MemLink) -> bool
+        ensures { (result ≡ true) × (self.new ≡ self.old) }
+    {
+        true
     }
 }

@@ -36,6 +36,7 @@ line_of_error error.JobState = line 400 (codes "JobState") (codes "the job does 
 line_of_error error.NotEnoughSpace = line 507 (codes "NotEnoughSpace") (codes "the log is full")
 line_of_error error.MethodNotAllowed = line 405 (codes "MethodNotAllowed") (codes "the method is not allowed here")
 line_of_error error.Authorization = line 403 (codes "Authorization") (codes "not this account")
+line_of_error error.OriginRefused = line 403 (codes "OriginRefused") (codes "requests of web pages are not taken")
 line_of_error error.RangeNotSatisfiable = line 416 (codes "RangeNotSatisfiable") (codes "the range cannot be met")
 line_of_error error.InvalidArgument = line 400 (codes "InvalidArgument") (codes "too many inputs")
 line_of_error error.InvalidDurabilityLevel = line 400 (codes "InvalidDurabilityLevel") (codes "the durability level must be 1 to 6")

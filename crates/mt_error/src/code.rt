@@ -55,6 +55,8 @@ pub enum ErrorCode {
     MethodNotAllowed,
     /// 403: the path is another account's.
     Authorization,
+    /// 403: a page in a browser asks for a change, or for a script that outlives the page.
+    OriginRefused,
     /// 416: none of the object's bytes is in the range.
     RangeNotSatisfiable,
     /// 400: a job would have too many inputs.
@@ -97,7 +99,7 @@ impl ErrorCode {
             | ErrorCode::InvalidDurabilityLevel
             | ErrorCode::MetadataTooLarge
             | ErrorCode::InvalidUpload => 400,
-            ErrorCode::Authorization => 403,
+            ErrorCode::Authorization | ErrorCode::OriginRefused => 403,
             ErrorCode::ResourceNotFound
             | ErrorCode::DirectoryDoesNotExist
             | ErrorCode::LinkNotFound
@@ -139,6 +141,7 @@ impl ErrorCode {
             ErrorCode::NotEnoughSpace => "NotEnoughSpace",
             ErrorCode::MethodNotAllowed => "MethodNotAllowed",
             ErrorCode::Authorization => "Authorization",
+            ErrorCode::OriginRefused => "OriginRefused",
             ErrorCode::RangeNotSatisfiable => "RangeNotSatisfiable",
             ErrorCode::InvalidArgument => "InvalidArgument",
             ErrorCode::InvalidDurabilityLevel => "InvalidDurabilityLevel",
@@ -178,6 +181,7 @@ impl ErrorCode {
             ErrorCode::NotEnoughSpace => "the log is full",
             ErrorCode::MethodNotAllowed => "the method is not allowed here",
             ErrorCode::Authorization => "not this account",
+            ErrorCode::OriginRefused => "requests of web pages are not taken",
             ErrorCode::RangeNotSatisfiable => "the range cannot be met",
             ErrorCode::InvalidArgument => "too many inputs",
             ErrorCode::InvalidDurabilityLevel => "the durability level must be 1 to 6",

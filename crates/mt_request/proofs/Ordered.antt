@@ -10,27 +10,28 @@ use Rattle.mt_request.specs.Digest.{digest_refusal, wish_of}
 use Rattle.mt_request.specs.Order.{first_of, refuse_if}
 use Rattle.mt_request.specs.Puts.{unless}
 use Rattle.mt_request.specs.Requests.{asked_at, asked_by, doing_of, head_refusal, late_of, refusal_of_head, request_by, request_of}
-use Rattle.mt_request.specs.Target.{early_at, is_jobs, is_later, method_refusal, path_read, path_refusal}
+use Rattle.mt_request.specs.Target.{early_at, is_jobs, is_later, method_refusal, origin_refusal, path_read, path_refusal}
 use Rattle.mt_request.specs.declared.digest.Wish.{Wish}
 use Rattle.mt_request.specs.declared.request.Doing.{Doing}
 use Rattle.mt_request.specs.declared.request.Request.{Request}
 
 -- behind a path that is one
-behind_path : (jobs method : Option Refused) (wish : Wish) (late : Option ErrorCode) (doing : Doing) (digest : Option (List ℕ)) →
-    head_refusal (request_by (first_of (None ∷ jobs ∷ method ∷ [])) wish (unless late doing)) digest
-    ≡ first_of (None ∷ jobs ∷ method ∷ option_map plain (digest_refusal wish digest) ∷ option_map plain late ∷ [])
-behind_path (Some refused) method wish late doing digest = refl
-behind_path None (Some refused) wish late doing digest = refl
-behind_path None None wish None doing digest = refl
-behind_path None None wish (Some code) doing digest = refl
+behind_path : (jobs method page : Option Refused) (wish : Wish) (late : Option ErrorCode) (doing : Doing) (digest : Option (List ℕ)) →
+    head_refusal (request_by (first_of (None ∷ jobs ∷ method ∷ page ∷ [])) wish (unless late doing)) digest
+    ≡ first_of (None ∷ jobs ∷ method ∷ page ∷ option_map plain (digest_refusal wish digest) ∷ option_map plain late ∷ [])
+behind_path (Some refused) method page wish late doing digest = refl
+behind_path None (Some refused) page wish late doing digest = refl
+behind_path None None (Some refused) wish late doing digest = refl
+behind_path None None None wish None doing digest = refl
+behind_path None None None wish (Some code) doing digest = refl
 
 by_path : (p : Result AccountPath ErrorCode) (login : List ℕ) (head : Head) (digest : Option (List ℕ)) →
-    head_refusal (request_by (first_of (option_map plain (path_refusal p) ∷ option_map plain (refuse_if (is_later p) error.NotBuilt) ∷ method_refusal head.method ∷ []))
+    head_refusal (request_by (first_of (option_map plain (path_refusal p) ∷ option_map plain (refuse_if (is_later p) error.NotBuilt) ∷ method_refusal head.method ∷ option_map plain (origin_refusal head) ∷ []))
     (wish_of head.fields) (asked_at p login head)) digest
-    ≡ first_of (option_map plain (path_refusal p) ∷ option_map plain (refuse_if (is_later p) error.NotBuilt) ∷ method_refusal head.method
+    ≡ first_of (option_map plain (path_refusal p) ∷ option_map plain (refuse_if (is_later p) error.NotBuilt) ∷ method_refusal head.method ∷ option_map plain (origin_refusal head)
     ∷ option_map plain (digest_refusal (wish_of head.fields) digest) ∷ option_map plain (late_of login head) ∷ [])
 by_path (Ok p) login head digest =
-    behind_path (option_map plain (refuse_if (is_jobs p.area) error.NotBuilt)) (method_refusal head.method) (wish_of head.fields) (late_of login head) (doing_of p login head) digest
+    behind_path (option_map plain (refuse_if (is_jobs p.area) error.NotBuilt)) (method_refusal head.method) (option_map plain (origin_refusal head)) (wish_of head.fields) (late_of login head) (doing_of p login head) digest
 by_path (Err code) login head digest = refl
 
 pub in_order : (login : List ℕ) (head : Head) (digest : Option (List ℕ)) → head_refusal (request_of login head) digest ≡ refusal_of_head login head digest
@@ -42,7 +43,7 @@ in_order login head digest = by_path (path_read login head.target) login head di
 -- what a head asks for, by what its target names
 abbrev by_target : Result AccountPath ErrorCode → List ℕ → Head → Request
 by_target p login head =
-    request_by (first_of (option_map plain (path_refusal p) ∷ option_map plain (refuse_if (is_later p) error.NotBuilt) ∷ method_refusal head.method ∷ []))
+    request_by (first_of (option_map plain (path_refusal p) ∷ option_map plain (refuse_if (is_later p) error.NotBuilt) ∷ method_refusal head.method ∷ option_map plain (origin_refusal head) ∷ []))
     (wish_of head.fields) (asked_at p login head)
 
 -- its target names no path
@@ -54,9 +55,9 @@ refused_path login head code wish request path is asks =
 
 -- its path has another area, or not this method
 pub refused_at : (login : List ℕ) (head : Head) (p : AccountPath) (early : Refused) (wish : Wish) (request : Request) → Ok p ≡ path_read login head.target
-    → Some early ≡ early_at p.area head.method → wish ≡ wish_of head.fields → ((asked : Result Doing ErrorCode) → request ≡ request_by (Some early) wish asked)
+    → Some early ≡ early_at p.area head → wish ≡ wish_of head.fields → ((asked : Result Doing ErrorCode) → request ≡ request_by (Some early) wish asked)
     → request ≡ request_of login head
 unfolding request_of
 refused_at login head p early wish request path refuses is asks =
     asks (asked_by p login head) ∙ ap (λ e. request_by e wish (asked_by p login head)) refuses
-    ∙ ap (λ w. request_by (early_at p.area head.method) w (asked_by p login head)) is ∙ ap (λ q. by_target q login head) path
+    ∙ ap (λ w. request_by (early_at p.area head) w (asked_by p login head)) is ∙ ap (λ q. by_target q login head) path

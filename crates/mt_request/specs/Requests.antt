@@ -12,7 +12,7 @@ use Rattle.mt_request.specs.Digest.{digest_refusal, wish_of}
 use Rattle.mt_request.specs.Order.{first_of, refuse_if}
 use Rattle.mt_request.specs.Puts.{doing_by, kind_in, late_by, unless}
 use Rattle.mt_request.specs.Query.{page_of, query_of}
-use Rattle.mt_request.specs.Target.{early_of, is_later, method_refusal, path_read, path_refusal}
+use Rattle.mt_request.specs.Target.{early_of, is_later, method_refusal, origin_refusal, path_read, path_refusal}
 use Rattle.mt_request.specs.declared.digest.Wish.{Wish}
 use Rattle.mt_request.specs.declared.request.Doing.{Doing}
 use Rattle.mt_request.specs.declared.request.Doing.TheVariants as doing
@@ -23,12 +23,13 @@ abbrev pub late_of : List ℕ → Head → Option ErrorCode
 late_of login head = if bytes_eq head.method (codes "PUT") then late_by (kind_in head.fields) login head.fields else None
 
 -- THE ORDER OF REFUSALS, by the head alone and the digest of the body, where it is known: the target's form, its login and its
--- area; jobs; the method; the digest; then of an object its content type, metadata, level and the metadata's size, of a link its Location
+-- area; jobs; the method; the pages of browsers; the digest; then of an object its content type, metadata, level and the metadata's size, of a link its Location
 abbrev pub refusal_of_head : List ℕ → Head → Option (List ℕ) → Option Refused
 refusal_of_head login head digest = first_of (
     option_map plain (path_refusal (path_read login head.target))
     ∷ option_map plain (refuse_if (is_later (path_read login head.target)) error.NotBuilt)
     ∷ method_refusal head.method
+    ∷ option_map plain (origin_refusal head)
     ∷ option_map plain (digest_refusal (wish_of head.fields) digest)
     ∷ option_map plain (late_of login head)
     ∷ [])

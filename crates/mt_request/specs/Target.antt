@@ -1,5 +1,6 @@
 -- The path that a target names, and the refusals that stand before the digest of a body.
-use Rattle.std.specs.Prelude.{ℕ, Bool, true, false, ◌||◌, List, [], ◌∷◌, codes, bytes_eq, Option, Some, None, option_map, Result, Ok, Err, if◌then◌else◌}
+use Rattle.std.specs.Prelude.{ℕ, Bool, true, false, not, ◌||◌, ◌&&◌, List, [], ◌∷◌, codes, bytes_eq, Option, Some, None, option_map, Result, Ok, Err, if◌then◌else◌}
+use Rattle.std.specs.List.{list_any}
 use Rattle.mt_error.specs.Refusals.{not_allowed, plain}
 use Rattle.mt_error.specs.declared.code.ErrorCode.{ErrorCode}
 use Rattle.mt_error.specs.declared.code.ErrorCode.TheVariants as error
@@ -13,6 +14,7 @@ use Rattle.mt_path.specs.declared.area.Area.TheVariants as area
 use Rattle.mt_path.specs.declared.error.PathError.{PathError}
 use Rattle.mt_path.specs.declared.error.PathError.TheVariants as path
 use Rattle.mt_request.specs.Order.{first_of, refuse_if}
+use Rattle.mt_types.specs.Fields.{is_named}
 
 -- why a target, or a Location, names no path; the first of these that holds, in this order
 abbrev pub error_of_path : PathError → ErrorCode
@@ -52,14 +54,27 @@ is_method name = bytes_eq name (codes "DELETE") || bytes_eq name (codes "GET") |
 abbrev pub method_refusal : List ℕ → Option Refused
 method_refusal name = if is_method name then None else Some (not_allowed methods.Rows)
 
--- the refusals of a path that is one
-abbrev pub early_at : Area → List ℕ → Option Refused
-early_at area method = first_of (option_map plain (refuse_if (is_jobs area) error.NotBuilt) ∷ method_refusal method ∷ [])
+-- the methods that change nothing
+abbrev pub is_reading : List ℕ → Bool
+is_reading name = bytes_eq name (codes "GET") || bytes_eq name (codes "HEAD")
 
--- the refusals that stand before the digest: the target's form, the login, the area, jobs, the method
+-- whether a request comes from a page in a browser and would change something, or asks for a script that outlives its page: by the
+-- fields alone, whatever they say (RFC 6454, section 7; Service Workers, the update of a registration)
+abbrev pub is_of_page : Head → Bool
+is_of_page head = list_any (is_named (codes "service-worker")) head.fields || not (is_reading head.method) && list_any (is_named (codes "origin")) head.fields
+
+abbrev pub origin_refusal : Head → Option ErrorCode
+origin_refusal head = refuse_if (is_of_page head) error.OriginRefused
+
+-- the refusals of a path that is one
+abbrev pub early_at : Area → Head → Option Refused
+early_at area head = first_of (option_map plain (refuse_if (is_jobs area) error.NotBuilt) ∷ method_refusal head.method ∷ option_map plain (origin_refusal head) ∷ [])
+
+-- the refusals that stand before the digest: the target's form, the login, the area, jobs, the method, the pages of browsers
 abbrev pub early_of : List ℕ → Head → Option Refused
 early_of login head = first_of (
     option_map plain (path_refusal (path_read login head.target))
     ∷ option_map plain (refuse_if (is_later (path_read login head.target)) error.NotBuilt)
     ∷ method_refusal head.method
+    ∷ option_map plain (origin_refusal head)
     ∷ [])

@@ -162,7 +162,7 @@ pub fn request_of(alloc: Global, login: &str, head: &Head) -> Result<Request, Al
 {
     let wish = wish_of(head.fields.as_slice());
     match read_path(alloc, login, head.target.as_slice())? {
-        Ok(path) => match early_at(path.area(), head.method.as_str()) {
+        Ok(path) => match early_at(path.area(), head) {
             None => Ok(request_by(wish, asked_by(alloc, login, path, head)?)),
             Some(early) => Ok(refused(wish, early)),
         },

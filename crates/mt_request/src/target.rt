@@ -1,9 +1,11 @@
 //! The path of a request, and the refusals that stand before the digest of its body.
 ghost use Rattle.std.specs.Prelude.{◌≡◌, IfOk};
-ghost use Rattle.mt_request.specs.Target.{early_at, error_of_path, is_jobs, is_method, method_refusal, path_read};
+ghost use Rattle.mt_request.specs.Target.{early_at, error_of_path, is_jobs, is_method, is_of_page, is_reading, method_refusal, path_read};
 
 use mt_error::{ErrorCode, Methods, Refused};
+use mt_http::Head;
 use mt_path::{Area, Path, PathError};
+use mt_types::has_field;
 use std::alloc::{AllocError, Global};
 
 // Why a target, or a Location, names no path.
@@ -61,12 +63,33 @@ fn method_refusal(name: &str) -> Option<Refused>
     }
 }
 
-/// The first refusal behind that of the path: its area, the method.
-pub fn early_at(area: Area, method: &str) -> Option<Refused>
-    ensures { result ≡ early_at area method.now }
+fn is_reading(name: &str) -> bool
+    ensures { result ≡ is_reading name.now }
+{
+    name == "GET" || name == "HEAD"
+}
+
+// Whether a request comes from a page in a browser and would change something, or asks for a script that outlives its page.
+fn is_of_page(head: &Head) -> bool
+    ensures { result ≡ is_of_page head.now }
+{
+    let fields = head.fields.as_slice();
+    has_field(fields, "service-worker")
+        || !is_reading(head.method.as_str()) && has_field(fields, "origin")
+}
+
+/// The first refusal behind that of the path: its area, the method, the pages of browsers.
+pub fn early_at(area: Area, head: &Head) -> Option<Refused>
+    ensures { result ≡ early_at area head.now }
 {
     if is_jobs(area) {
         return Some(Refused::plain(ErrorCode::NotBuilt));
     }
-    method_refusal(method)
+    if let Some(refused) = method_refusal(head.method.as_str()) {
+        return Some(refused);
+    }
+    if is_of_page(head) {
+        return Some(Refused::plain(ErrorCode::OriginRefused));
+    }
+    None
 }

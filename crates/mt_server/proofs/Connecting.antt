@@ -17,7 +17,7 @@ use Rattle.mt_connection.specs.declared.end.ConnectionEnd.{ConnectionEnd}
 use Rattle.mt_connection.specs.declared.end.ConnectionEnd.TheVariants as ended
 use Rattle.mt_connection.proofs.Crashes.{front_of_front}
 use Rattle.mt_server.specs.Guarantees.{AllTold, Connected, HasFront, HasRun, HasSize, IsDurable}
-use Rattle.mt_server.specs.Rounds.{size_of}
+use Rattle.mt_server.specs.Events.{size_of}
 use Rattle.mt_server.specs.Statuses.{ByDisk, ByLink, most_messages}
 use Rattle.mt_server.specs.declared.status.Status.TheVariants as status
 

@@ -1,41 +1,67 @@
--- What one turn at a door leaves.
-use Rattle.std.proofs.Common.{◌≡◌, ◌<◌, ◌≤◌, ℕ, ◌+◌, List, [], ◌∷◌, ◌++◌, length, Option, Some, None, refl, ap, sym, ◌∙◌, arith, length-append}
-use Rattle.std.specs.Option.{ForSome}
-use Rattle.std.specs.Prelude.{option_map}
-use Rattle.std.proofs.lemmas.Option.{none-some, same_Some}
-use Rattle.mt_base.specs.Counts.{NeverFell, Rose}
-use Rattle.mt_server.specs.Rounds.{Passed, Round, door_side}
-use Rattle.mt_server.proofs.Rounding.{none_back, none_taken}
+-- What one call at a door leaves.
+use Rattle.std.proofs.Common.{◌≡◌, ℕ, ◌+◌, Bool, List, [], ◌∷◌, ◌++◌, Option, Some, None, true, false, refl, ap, sym, ◌∙◌, arith, append-nil}
+use Rattle.std.specs.Prelude.{if◌then◌else◌, is_some, option_map}
+use Rattle.mt_edge.specs.Doors.{Comes, as_count}
+use Rattle.mt_edge.specs.declared.next.Next.TheVariants as next
+use Rattle.mt_engine.specs.History.{History}
+use Rattle.mt_connection.specs.declared.end.ConnectionEnd.{ConnectionEnd}
+use Rattle.mt_server.specs.Events.{Had, Passed, Woke, door_side}
+use Rattle.mt_server.proofs.Following.{none_back, none_taken}
 
--- a link was taken and given back
-pub passed_one : {L : Type 0} (waiting back : Option (List L)) (taken faults : ℕ) (waiting1 back1 : Option (List L)) (taken1 faults1 : ℕ) (waiting2 back2 : Option (List L)) (taken2 faults2 : ℕ) (x : Round L)
-    → waiting ≡ option_map (λ rest. x.taken ∷ rest) waiting1 → taken1 ≡ taken + 1 → back1 ≡ back → NeverFell faults faults1
-    → back2 ≡ option_map (λ links. links ++ x.given ∷ []) back1 → (waiting2 ≡ waiting1) × (taken2 ≡ taken1) × (faults2 ≡ faults1)
-    → Passed (door_side waiting back taken faults) (x ∷ []) (door_side waiting2 back2 taken2 faults2)
-passed_one waiting back taken faults waiting1 back1 taken1 faults1 waiting2 back2 taken2 faults2 x came one same later given stays = record {
-  taken = came ∙ ap (option_map (λ rest. x.taken ∷ rest)) (sym stays.0);
-  back = given ∙ ap (option_map (λ links. links ++ x.given ∷ [])) same;
-  count = omega (arith, one, stays.1);
-  faults = omega (arith, later, stays.2);
-}
+given_by : {L : Type 0} (r : Bool) (link : L) (back : Option (List L)) → option_map (λ links. if r then links ++ link ∷ [] else links) back ≡ option_map (λ links. links ++ (if r then link ∷ [] else [])) back
+given_by true link back = refl
+given_by false link None = refl
+given_by false link (Some links) = ap Some (sym (append-nil links))
 
--- there was none
-pub passed_none : {L : Type 0} (waiting back : Option (List L)) (taken faults : ℕ) (waiting1 back1 : Option (List L)) (taken1 faults1 : ℕ)
-    → (waiting1 ≡ waiting) × (taken1 ≡ taken) × Rose faults faults1 → back1 ≡ back → Passed (door_side waiting back taken faults) [] (door_side waiting1 back1 taken1 faults1)
-passed_none waiting back taken faults waiting1 back1 taken1 faults1 failed same = record {
-  taken = sym failed.0 ∙ none_taken waiting1;
-  back = same ∙ none_back back;
-  count = omega (arith, failed.1);
-  faults = omega (arith, failed.2);
-}
+none_is : {L : Type 0} (w : Option (List L)) → w ≡ None → is_some w ≡ true → ⊥
+none_is w is told = let no : is_some w ≡ false = ap is_some is in cc
 
--- one more was taken than before
-pub one_out : {L : Type 0} (back back1 : Option (List L)) (taken taken1 : ℕ) → ForSome back (λ links. length links ≤ taken) → back1 ≡ back → taken1 ≡ taken + 1 → ForSome back1 (λ links. length links < taken1)
-one_out back back1 taken taken1 few same one links is = let before = few links (sym same ∙ is) in omega (arith, before, one)
+first_told : {L : Type 0} (link : L) (w : Option (List L)) → is_some (option_map (λ rest. link ∷ rest) w) ≡ is_some w
+first_told link None = refl
+first_told link (Some w) = refl
 
--- and it was given back
-pub all_back : {L : Type 0} (back back1 : Option (List L)) (link : L) (taken taken1 : ℕ) → ForSome back (λ links. length links < taken) → back1 ≡ option_map (λ links. links ++ link ∷ []) back → taken1 ≡ taken → ForSome back1 (λ links. length links ≤ taken1)
-all_back None back1 link taken taken1 few given same links is = absurd (none-some links (sym given ∙ is))
-all_back (Some before) back1 link taken taken1 few given same links is =
-    let all : length links ≡ length before + 1 = ap length (sym (same_Some _ _ (sym given ∙ is))) ∙ length-append before (link ∷ []) in
-    let room = few before refl in omega (arith, all, room, same)
+-- a link had its turn and was given back: what it was before the call, when the turn began, and behind it
+module _ {L : Type 0} (w b w1 b1 w2 b2 : Option (List L)) (t o k f t1 o1 k1 f1 t2 o2 f2 : ℕ) (link given : L) (r : Bool) (end : ConnectionEnd) (named : History) where
+  pub passed_new : (fresh : Bool) → Comes fresh w t k f (next.New link) w1 t1 k1 f1 → b1 ≡ b → o1 ≡ o → (is_some w1 ≡ true → r ≡ true) → o2 ≡ o1 + as_count r → b2 ≡ option_map (λ links. if r then links ++ given ∷ [] else links) b1
+      → (w2 ≡ w1) × (t2 ≡ t1) × (f2 ≡ f1) → Passed (door_side w b t o f) (Had (record { taken = link; given = given; first = true; over = r; end = end; named = named }) ∷ []) (door_side w2 b2 t2 o2 f2)
+  passed_new fresh came same_back same_over whole over back stays = record {
+    whole = λ told. (refl, whole (sym (first_told link w1) ∙ (sym (ap is_some came.1) ∙ told)), tt);
+    taken = came.1 ∙ ap (option_map (λ rest. link ∷ rest)) (sym stays.0);
+    back = back ∙ (given_by r given b1 ∙ ap (option_map (λ links. links ++ (if r then given ∷ [] else []))) same_back);
+    count = omega (arith, came.2, stays.1);
+    over = omega (arith, over, same_over);
+    faults = let later = came.4 in omega (arith, later, stays.2);
+  }
+
+  pub passed_again : (fresh : Bool) → Comes fresh w t k f (next.Again link) w1 t1 k1 f1 → b1 ≡ b → o1 ≡ o → o2 ≡ o1 + as_count r → b2 ≡ option_map (λ links. if r then links ++ given ∷ [] else links) b1
+      → (w2 ≡ w1) × (t2 ≡ t1) × (f2 ≡ f1) → Passed (door_side w b t o f) (Had (record { taken = link; given = given; first = false; over = r; end = end; named = named }) ∷ []) (door_side w2 b2 t2 o2 f2)
+  passed_again fresh came same_back same_over over back stays = record {
+    whole = λ told. absurd (none_is w came.0 told);
+    taken = came.0 ∙ ap (option_map (λ rest. link ∷ rest)) (sym (stays.0 ∙ (came.1 ∙ came.0)));
+    back = back ∙ (given_by r given b1 ∙ ap (option_map (λ links. links ++ (if r then given ∷ [] else []))) same_back);
+    count = omega (arith, came.2, stays.1);
+    over = omega (arith, over, same_over);
+    faults = let later = came.4 in omega (arith, later, stays.2);
+  }
+
+-- no link came
+module _ {L : Type 0} (w b w1 b1 : Option (List L)) (t o k f t1 o1 k1 f1 : ℕ) (fresh : Bool) where
+  pub passed_woke : Comes fresh w t k f next.Woken w1 t1 k1 f1 → b1 ≡ b → o1 ≡ o → Passed (door_side w b t o f) (Woke ∷ []) (door_side w1 b1 t1 o1 f1)
+  passed_woke came same_back same_over = record {
+    whole = λ told. absurd (none_is w came.0 told);
+    taken = sym came.1 ∙ none_taken w1;
+    back = same_back ∙ none_back b;
+    count = omega (arith, came.2);
+    over = omega (arith, same_over);
+    faults = let later = came.4 in omega (arith, later);
+  }
+
+  pub passed_none : Comes fresh w t k f next.Failed w1 t1 k1 f1 → b1 ≡ b → o1 ≡ o → Passed (door_side w b t o f) [] (door_side w1 b1 t1 o1 f1)
+  passed_none came same_back same_over = record {
+    whole = λ told. tt;
+    taken = sym came.1 ∙ none_taken w1;
+    back = same_back ∙ none_back b;
+    count = omega (arith, came.2);
+    over = omega (arith, same_over);
+    faults = let later = came.4 in omega (arith, later);
+  }

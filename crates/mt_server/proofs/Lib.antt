@@ -1,4 +1,4 @@
-pub mod Rounding
+pub mod Following
 pub mod Connecting
 pub mod Doors
 pub mod Going

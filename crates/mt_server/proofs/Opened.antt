@@ -18,7 +18,7 @@ use Rattle.mt_connection.specs.Transcript.{Setting}
 use Rattle.mt_connection.specs.declared.end.ConnectionEnd.{ConnectionEnd}
 use Rattle.mt_connection.proofs.Crashes.{all_of, between_all}
 use Rattle.mt_server.specs.Guarantees.{HasRun, HasSize}
-use Rattle.mt_server.specs.Rounds.{account_side, joined, size_of}
+use Rattle.mt_server.specs.Events.{account_side, joined, size_of}
 use Rattle.mt_server.specs.Statuses.{IsUnopened, NotOpened}
 use Rattle.mt_server.specs.declared.status.Status.{Status}
 use Rattle.mt_server.specs.declared.status.Status.TheVariants as status

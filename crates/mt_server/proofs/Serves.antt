@@ -11,13 +11,13 @@ use Rattle.mt_connection.specs.Transcript.{Setting, setting}
 use Rattle.mt_connection.proofs.Crashes.{all_of}
 use Rattle.mt_server.specs.Guarantees.{HasServed, HasSize}
 use Rattle.mt_server.specs.Lines.{SaysLine, line_of}
-use Rattle.mt_server.specs.Rounds.{AccountSide, DoorSide, account_side}
+use Rattle.mt_server.specs.Events.{AccountSide, DoorSide, account_side}
 use Rattle.mt_server.specs.Statuses.{ByDisk, ByDoor, IsBegun, IsOfServe, IsUnopened, NotOpened}
 use Rattle.mt_server.specs.declared.status.ServeEnd.{ServeEnd}
 use Rattle.mt_server.specs.declared.status.ServeEnd.TheVariants as serving
 use Rattle.mt_server.specs.declared.status.Status.{Status}
 use Rattle.mt_server.specs.declared.status.Status.TheVariants as status
-use Rattle.mt_server.proofs.Rounding.{passed_nothing}
+use Rattle.mt_server.proofs.Following.{passed_nothing}
 
 module _ {L : Type 0} (side : L → LinkSide) (stays : L → L → Type 0) where
   -- a serve that began later, over a disk that had counted no more faults
@@ -28,8 +28,8 @@ module _ {L : Type 0} (side : L → LinkSide) (stays : L → L → Type 0) where
       let went = run.transcript.0 in
       let opened = went.is_opened in
       record {
-        rounds = run.rounds;
-        transcript = (record { opened = went.opened; is_opened = record { history = opened.history; used = opened.used; tasks = opened.tasks; counted = omega (arith, counted, opened.counted) }; led = went.led }, run.transcript.1);
+        events = run.events;
+        transcript = (record { opened = went.opened; is_opened = record { history = opened.history; used = opened.used; tasks = opened.tasks; counted = omega (arith, counted, opened.counted) }; led = went.led; whole = went.whole }, run.transcript.1);
         links = run.links;
         durable_at_exit = run.durable_at_exit;
         crash_prefix = λ knows. leaves knows (run.crash_prefix knows);
@@ -53,11 +53,11 @@ module _ {L : Type 0} (side : L → LinkSide) (stays : L → L → Type 0) where
       → IsUnopened end → IsOfServe end → (s.knows ≡ true → (c : Files) → images c → HasHistory s.base h c) → (s.knows ≡ true → at_each_moment (IsBetween s.base h h)) → (s.knows ≡ true → HasSize end used size)
       → HasServed side stays s wanted images at_each_moment size (account_side h used d) door end (account_side h used d') door
   unserved_serve s wanted images at_each_moment size h used d d' door (status.UnreadableLog why) is of kept leaves sized =
-      record { rounds = []; transcript = (refl, refl, refl); links = passed_nothing door; durable_at_exit = kept; crash_prefix = leaves; reply_implies_durable = λ knows c image. tt; grew = all_of h; sized = sized }
+      record { events = []; transcript = (refl, refl, refl); links = passed_nothing door; durable_at_exit = kept; crash_prefix = leaves; reply_implies_durable = λ knows c image. tt; grew = all_of h; sized = sized }
   unserved_serve s wanted images at_each_moment size h used d d' door status.OpeningFault is of kept leaves sized =
-      record { rounds = []; transcript = (refl, refl, refl); links = passed_nothing door; durable_at_exit = kept; crash_prefix = leaves; reply_implies_durable = λ knows c image. tt; grew = all_of h; sized = sized }
+      record { events = []; transcript = (refl, refl, refl); links = passed_nothing door; durable_at_exit = kept; crash_prefix = leaves; reply_implies_durable = λ knows c image. tt; grew = all_of h; sized = sized }
   unserved_serve s wanted images at_each_moment size h used d d' door status.OutOfMemory is of kept leaves sized =
-      record { rounds = []; transcript = (refl, refl, refl); links = passed_nothing door; durable_at_exit = kept; crash_prefix = leaves; reply_implies_durable = λ knows c image. tt; grew = all_of h; sized = sized }
+      record { events = []; transcript = (refl, refl, refl); links = passed_nothing door; durable_at_exit = kept; crash_prefix = leaves; reply_implies_durable = λ knows c image. tt; grew = all_of h; sized = sized }
   unserved_serve s wanted images at_each_moment size h used d d' door status.Usage is of kept leaves sized = absurd of
   unserved_serve s wanted images at_each_moment size h used d d' door (status.Session end) is of kept leaves sized = absurd is
   unserved_serve s wanted images at_each_moment size h used d d' door (status.Serve end) is of kept leaves sized = absurd is
@@ -89,3 +89,4 @@ disk_later serving.Disk d d1 d2 before rose = omega (arith, before, rose)
 disk_later serving.Served d d1 d2 before rose = tt
 disk_later serving.NoLink d d1 d2 before rose = tt
 disk_later serving.Memory d d1 d2 before rose = tt
+disk_later serving.Spent d d1 d2 before rose = tt

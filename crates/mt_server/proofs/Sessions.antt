@@ -6,7 +6,7 @@ use Rattle.mt_model.specs.State.{State}
 use Rattle.mt_connection.specs.Sides.{LinkSide, Sides}
 use Rattle.mt_connection.specs.Transcript.{setting}
 use Rattle.mt_server.specs.Guarantees.{HasRun}
-use Rattle.mt_server.specs.Rounds.{account_side, joined}
+use Rattle.mt_server.specs.Events.{account_side, joined}
 use Rattle.mt_server.specs.declared.status.Status.{Status}
 
 pub run_here : (hears : Bool) (gives : ℕ → Type 0) (login : Bytes) (base : State Bytes) (knows knows' : Bool) (limit limit' used used' : ℕ) (link link' : LinkSide) → knows' ≡ knows → limit' ≡ limit → used' ≡ used → link' ≡ link

@@ -12,7 +12,7 @@ use Rattle.mt_engine.specs.Opening.{IsRefused, KeepsLogs}
 use Rattle.mt_engine.specs.declared.opening.Unreadable.{Unreadable}
 use Rattle.mt_connection.specs.declared.end.ConnectionEnd.{ConnectionEnd}
 use Rattle.mt_connection.specs.declared.end.ConnectionEnd.TheVariants as ended
-use Rattle.mt_server.specs.Statuses.{IsReadyAfter, NotOpened, code_of, over_by}
+use Rattle.mt_server.specs.Statuses.{IsReadyAfter, NotOpened, code_of}
 use Rattle.mt_server.specs.declared.status.ServeEnd.{ServeEnd}
 use Rattle.mt_server.specs.declared.status.ServeEnd.TheVariants as serving
 use Rattle.mt_server.specs.declared.status.Status.{Status}
@@ -61,6 +61,7 @@ ready_serve serving.Disk told Ready ready = tt
 ready_serve serving.Memory told Ready ready = tt
 ready_serve serving.Served told Ready ready = ready (λ e. cc) (λ e. cc)
 ready_serve serving.NoLink told Ready ready = ready (λ e. cc) (λ e. cc)
+ready_serve serving.Spent told Ready ready = ready (λ e. cc) (λ e. cc)
 
 pub ready_unopened : (end : Status) (told : Bool) (Ready : Type 0) (got : Option (List ℕ)) (w d : ℕ) (got' : Option (List ℕ)) (w' d' : ℕ) → NotOpened end got w d got' w' d'
     → ((why : Unreadable) → end ≡ status.UnreadableLog why → told ≡ true → Ready) → IsReadyAfter end told Ready
@@ -70,13 +71,6 @@ ready_unopened status.OutOfMemory told Ready got w d got' w' d' is ready = tt
 ready_unopened status.Usage told Ready got w d got' w' d' is ready = absurd is
 ready_unopened (status.Session end) told Ready got w d got' w' d' is ready = absurd is
 ready_unopened (status.Serve end) told Ready got w d got' w' d' is ready = absurd is
-
--- the last turn of links that did not break was no break
-pub no_break_at : (turn : Option ConnectionEnd) (end : ServeEnd) → over_by turn ≡ Some end → end ≢ serving.Disk → end ≢ serving.Memory → (turn ≢ Some ended.Disk) × (turn ≢ Some ended.Memory)
-no_break_at turn end is no_disk no_memory = (
-  (λ e. let same : Some serving.Disk ≡ Some end = sym (ap over_by e) ∙ is in no_disk (cc)),
-  (λ e. let same : Some serving.Memory ≡ Some end = sym (ap over_by e) ∙ is in no_memory (cc)),
-)
 
 -- ---- the number
 
@@ -97,3 +91,4 @@ ready_by (status.Serve serving.Disk) told Ready no_fault no_want tells ready = a
 ready_by (status.Serve serving.Memory) told Ready no_fault no_want tells ready = absurd (no_want refl)
 ready_by (status.Serve serving.Served) told Ready no_fault no_want tells ready = ready
 ready_by (status.Serve serving.NoLink) told Ready no_fault no_want tells ready = ready
+ready_by (status.Serve serving.Spent) told Ready no_fault no_want tells ready = absurd (no_want refl)

@@ -136,6 +136,7 @@ serve_numbers (status.Serve serving.Served) of = inl refl
 serve_numbers (status.Serve serving.Disk) of = inr (inr (inl refl))
 serve_numbers (status.Serve serving.Memory) of = inr (inr (inr (inl refl)))
 serve_numbers (status.Serve serving.NoLink) of = inr (inr (inr (inr refl)))
+serve_numbers (status.Serve serving.Spent) of = inr (inr (inr (inl refl)))
 
 -- a serve whose log could be read was begun, or said nothing
 pub serve_silent : (s : Status) → IsOfServe s → code_of s ≢ 2 → IsBegun s ⊎ IsSilent s

@@ -1,5 +1,5 @@
 -- What the top call promises of a session, and of many connections.
-use Rattle.std.specs.Prelude.{◌≡◌, ◌+◌, ◌≤◌, ℕ, true, List, [], ◌∷◌, ◌++◌, length, Option, Some, None, IfSome}
+use Rattle.std.specs.Prelude.{◌≡◌, ◌+◌, ◌≤◌, ℕ, true, List, [], ◌∷◌, ◌++◌, length, IfSome}
 use Rattle.mt_base.specs.Counts.{Rose, NeverFell}
 use Rattle.mt_base.specs.Lists.{IsPrefixOf}
 use Rattle.mt_disk.specs.Files.{Files}
@@ -12,8 +12,10 @@ use Rattle.mt_connection.specs.Sides.{LinkSide, Sides}
 use Rattle.mt_connection.specs.Transcript.{Exchange, Setting, commands_of}
 use Rattle.mt_connection.specs.declared.end.ConnectionEnd.{ConnectionEnd}
 use Rattle.mt_connection.specs.declared.end.ConnectionEnd.TheVariants as ended
-use Rattle.mt_server.specs.Rounds.{AccountSide, DoorSide, EachNamed, IsEnd, NothingFollows, Passed, Round, Rounds, joined, on_link}
+use Rattle.mt_server.specs.Events.{AccountSide, AreWhole, DoorSide, EachNamed, Event, Events, Had, IsEnd, NothingFollows, Passed, Round, Rounds, Woke, joined, on_link, turns_in}
 use Rattle.mt_server.specs.Statuses.{NotOpened, most_messages}
+use Rattle.mt_server.specs.declared.came.Came.{Came}
+use Rattle.mt_server.specs.declared.came.Came.TheVariants as came
 use Rattle.mt_server.specs.declared.status.ServeEnd.TheVariants as serving
 use Rattle.mt_server.specs.declared.status.Status.{Status}
 use Rattle.mt_server.specs.declared.status.Status.TheVariants as status
@@ -86,7 +88,7 @@ pub record HasRun (s : Setting) (images : Files → Type 0) (at_each_moment : (F
   pub grew : IsPrefixOf old.history new.history
   pub sized : s.knows ≡ true → HasSize end new.used size
 
--- one connection on a link of a door
+-- one turn of a link of a door
 abbrev pub Visited : {L : Type 0} → (L → LinkSide) → (L → L → Type 0) → Setting → Round L → AccountSide → AccountSide → Type 0
 Visited side stays s x old new =
     Connected (on_link s (side x.taken)) (joined (side x.taken) old) x.end (joined (side x.given) new) x.named × stays x.taken x.given
@@ -98,34 +100,37 @@ pub record IsOpened (old new : AccountSide) : Type 0 where
   pub tasks : new.tasks ≡ old.tasks
   pub counted : NeverFell old.disk_faults new.disk_faults
 
--- the store was opened, and these rounds were served
-pub record Serving {L : Type 0} (side : L → LinkSide) (stays : L → L → Type 0) (s : Setting) (old : AccountSide) (rounds : List (Round L)) (new : AccountSide) : Type 0 where
+-- the store was opened, and these events came
+pub record Serving {L : Type 0} (side : L → LinkSide) (stays : L → L → Type 0) (s : Setting) (old : AccountSide) (events : List (Event L)) (new : AccountSide) : Type 0 where
   pub opened : AccountSide
   pub is_opened : IsOpened old opened
-  pub led : Rounds (Visited side stays s) NothingFollows opened rounds new
+  pub led : Events (Visited side stays s) NothingFollows opened events new
+  -- where each link had one turn, these are whole connections, one after another
+  pub whole : AreWhole events → Rounds (Visited side stays s) NothingFollows opened (turns_in events) new
 
--- A serve of so many links, of which these were served.
-abbrev pub Serve : {L : Type 0} → (L → LinkSide) → (L → L → Type 0) → Setting → ℕ → AccountSide → DoorSide L → Status → AccountSide → DoorSide L → List (Round L) → Type 0
-Serve side stays s wanted old door (status.Serve end) new door' rounds = Serving side stays s old rounds new × IsEnd wanted end rounds door door'
-Serve side stays s wanted old door (status.Session end) new door' rounds = ⊥
-Serve side stays s wanted old door status.Usage new door' rounds = ⊥
-Serve side stays s wanted old door end new door' rounds = (rounds ≡ []) × (new.history ≡ old.history) × (new.used ≡ old.used)
+-- A serve of so many links, at which these events came.
+abbrev pub Serve : {L : Type 0} → (L → LinkSide) → (L → L → Type 0) → Setting → ℕ → AccountSide → DoorSide L → Status → AccountSide → DoorSide L → List (Event L) → Type 0
+Serve side stays s wanted old door (status.Serve end) new door' events = Serving side stays s old events new × IsEnd wanted end events door door'
+Serve side stays s wanted old door (status.Session end) new door' events = ⊥
+Serve side stays s wanted old door status.Usage new door' events = ⊥
+Serve side stays s wanted old door end new door' events = (events ≡ []) × (new.history ≡ old.history) × (new.used ≡ old.used)
 
--- One serve over a base and a history that the disk stood for: the rounds of its links, each of which was given back; and the rest
--- as of a session.
+-- One serve over a base and a history that the disk stood for: the turns of its links, each of which that is over was given back; and
+-- the rest as of a session.
 pub record HasServed {L : Type 0} (side : L → LinkSide) (stays : L → L → Type 0) (s : Setting) (wanted : ℕ) (images : Files → Type 0) (at_each_moment : (Files → Type 0) → Type 0) (size : ℕ)
     (old : AccountSide) (door : DoorSide L) (end : Status) (new : AccountSide) (door' : DoorSide L) : Type 0 where
-  pub rounds : List (Round L)
-  pub transcript : Serve side stays s wanted old door end new door' rounds
-  pub links : Passed door rounds door'
+  pub events : List (Event L)
+  pub transcript : Serve side stays s wanted old door end new door' events
+  pub links : Passed door events door'
   pub durable_at_exit : s.knows ≡ true → (c : Files) → images c → IsDurable end s.base new.history c
   pub crash_prefix : s.knows ≡ true → at_each_moment (IsBetween s.base old.history new.history)
-  pub reply_implies_durable : s.knows ≡ true → (c : Files) → images c → EachNamed (HasFront s.base c) rounds
+  pub reply_implies_durable : s.knows ≡ true → (c : Files) → images c → EachNamed (HasFront s.base c) (turns_in events)
   pub grew : IsPrefixOf old.history new.history
   pub sized : s.knows ≡ true → HasSize end new.used size
 
--- One turn at the door: it gave no link, or one that was served and given back. What its images have goes by the end.
-abbrev pub Visit : {L : Type 0} → (L → LinkSide) → (L → L → Type 0) → Setting → (images : Files → Type 0) → AccountSide → DoorSide L → Option ConnectionEnd → AccountSide → DoorSide L → Type 0
-Visit side stays s images old door None new door' = (new ≡ old) × Passed door [] door' × Rose door.faults door'.faults
-Visit {L} side stays s images old door (Some end) new door' =
-    (x : Round L) × (x.end ≡ end) × Visited side stays s x old new × Passed door (x ∷ []) door' × (s.knows ≡ true → Images end s.base new.history x.named images)
+-- One call at the door: a link that had its turn and was given back, or none. What its images have goes by the end.
+abbrev pub Visit : {L : Type 0} → (L → LinkSide) → (L → L → Type 0) → Setting → (images : Files → Type 0) → AccountSide → DoorSide L → Came → AccountSide → DoorSide L → Type 0
+Visit {L} side stays s images old door (came.Had first last end) new door' =
+    (x : Round L) × (x.first ≡ first) × (x.over ≡ last) × (x.end ≡ end) × Visited side stays s x old new × Passed door (Had x ∷ []) door' × (s.knows ≡ true → Images end s.base new.history x.named images)
+Visit side stays s images old door came.Woke new door' = (new ≡ old) × Passed door (Woke ∷ []) door'
+Visit side stays s images old door came.NoLink new door' = (new ≡ old) × Passed door [] door' × Rose door.faults door'.faults

@@ -1,4 +1,4 @@
 pub mod Lines
 pub mod Statuses
-pub mod Rounds
+pub mod Events
 pub mod Guarantees

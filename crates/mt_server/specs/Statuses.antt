@@ -1,6 +1,7 @@
 -- How a run ended, and what each status says.
 use Rattle.std.specs.Prelude.{◌≡◌, ◌⊎◌, ◌+◌, ◌<◌, ℕ, Bool, true, List, Option, Some, None, Ok}
 use Rattle.mt_base.specs.Counts.{Rose, NeverFell}
+use Rattle.mt_edge.specs.Doors.{as_count}
 use Rattle.mt_engine.specs.History.{Bytes}
 use Rattle.mt_engine.specs.declared.opening.OpenEnd.{OpenEnd}
 use Rattle.mt_engine.specs.declared.opening.OpenEnd.TheVariants as opening
@@ -11,6 +12,8 @@ use Rattle.mt_settings.specs.Words.{settings_of}
 use Rattle.mt_settings.specs.declared.settings.Mode.TheVariants as mode
 use Rattle.mt_settings.specs.declared.settings.Settings.{Settings}
 use Rattle.mt_server.specs.Lines.{SaysLine, line_of}
+use Rattle.mt_server.specs.declared.came.Came.{Came}
+use Rattle.mt_server.specs.declared.came.Came.TheVariants as came
 use Rattle.mt_server.specs.declared.status.ServeEnd.{ServeEnd}
 use Rattle.mt_server.specs.declared.status.ServeEnd.TheVariants as serving
 use Rattle.mt_server.specs.declared.status.Status.{Status}
@@ -46,13 +49,7 @@ code_of (status.Serve serving.Served) = 0
 code_of (status.Serve serving.Disk) = 5
 code_of (status.Serve serving.Memory) = 8
 code_of (status.Serve serving.NoLink) = 10
-
--- how the serving of links ends by a turn at the door: it gave no link, or one whose connection ended so; or it goes on
-abbrev pub over_by : Option ConnectionEnd → Option ServeEnd
-over_by None = Some serving.NoLink
-over_by (Some ended.Disk) = Some serving.Disk
-over_by (Some ended.Memory) = Some serving.Memory
-over_by (Some _) = None
+code_of (status.Serve serving.Spent) = 8
 
 -- After a run the disk is ready for another one, unless it failed or memory was wanted; of a disk whose log can't be read, where it
 -- told at entry what it held.
@@ -123,10 +120,23 @@ ByDisk (status.Serve serving.Disk) d d' = Rose d d'
 ByDisk status.OpeningFault d d' = Rose d d'
 ByDisk _ d d' = Unit {0}
 
--- what a turn at the door counts: a fault, or one link more
-abbrev pub TurnCounts : Option ConnectionEnd → (taken faults taken' faults' : ℕ) → Type 0
-TurnCounts None t f t' f' = (t' ≡ t) × Rose f f'
-TurnCounts (Some end) t f t' f' = (t' ≡ t + 1) × NeverFell f f'
+-- what a call at the door counts: a link that had its turn, none, or a fault
+abbrev pub TurnCounts : Came → (taken over faults taken' over' faults' : ℕ) → Type 0
+TurnCounts (came.Had first last end) t o f t' o' f' = (t' ≡ t + as_count first) × (o' ≡ o + as_count last) × NeverFell f f'
+TurnCounts came.Woke t o f t' o' f' = (t' ≡ t) × (o' ≡ o) × NeverFell f f'
+TurnCounts came.NoLink t o f t' o' f' = (t' ≡ t) × Rose f f'
+
+-- a new link comes, and the door fails, only where a new link was asked for
+abbrev pub IsAskedFor : (fresh : Bool) → Came → Type 0
+IsAskedFor fresh (came.Had first last end) = first ≡ true → fresh ≡ true
+IsAskedFor fresh came.Woke = Unit {0}
+IsAskedFor fresh came.NoLink = fresh ≡ true
+
+-- how the turn of the link that came ended
+abbrev pub end_of : Came → Option ConnectionEnd
+end_of (came.Had first last end) = Some end
+end_of came.Woke = None
+end_of came.NoLink = None
 
 -- all links that were asked for were taken where that is the status, and fewer, with a counted fault of the door, on the status of none
 abbrev pub ByDoor : Status → (wanted taken faults taken' faults' : ℕ) → Type 0

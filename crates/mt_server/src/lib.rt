@@ -1,15 +1,17 @@
 //! The top call: the words are read, the store is opened, and one session or many connections are served.
 //!
 //! - `top`: `mantad`, the call that the program makes, with all that is promised of it; `run`: the command that the words ask for.
-//! - `session`: one connection over a source and a sink; `serve`: the links of a door, one after another.
+//! - `session`: one connection over a source and a sink; `serve`: turns of the links of a door, one after another; `came`: what
+//!   a call at the door came to.
 //! - `opening`: the store, or why it can't be opened; `line`: the line that says so.
-//! - `laws`: rounds go on.
+//! - `laws`: events go on.
 //! - `status`: how a run ended, and its number.
 //!
-//! In `specs/` begin with `Guarantees`; `Statuses` says what each status means, `Rounds` what many connections are, `Lines` what is
+//! In `specs/` begin with `Guarantees`; `Statuses` says what each status means, `Events` what many connections are, `Lines` what is
 //! written where nothing is served.
 #![tactic(auto)]
 
+mod came;
 pub mod laws;
 mod line;
 mod opening;

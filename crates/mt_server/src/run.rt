@@ -1,5 +1,5 @@
 //! What the words ask for is done: a session, or connections.
-ghost use Rattle.std.specs.Prelude.{◌≡◌, ◌≤◌, ◌⊎◌, ℕ, false, length, is_some, IfSome, map, string_bytes};
+ghost use Rattle.std.specs.Prelude.{◌≡◌, ◌+◌, ◌⊎◌, ℕ, false, is_some, IfSome, map, string_bytes};
 ghost use Rattle.std.specs.Option.{ForSome};
 ghost use Rattle.mt_base.specs.Counts.{Rose};
 ghost use Rattle.mt_disk.specs.CrashModel.{IsAtRest, LeavesOnly};
@@ -8,14 +8,14 @@ ghost use Rattle.mt_model.specs.State.{State};
 ghost use Rattle.mt_engine.specs.History.{Bytes, HasHistory, History};
 ghost use Rattle.mt_engine.specs.Opening.{IsReadable, IsRefused, KeepsLogs};
 ghost use Rattle.mt_engine.specs.declared.opening.Unreadable.{Unreadable};
-ghost use Rattle.mt_connection.specs.Transcript.{setting};
+ghost use Rattle.mt_connection.specs.Transcript.{at_any_call, setting};
 ghost use Rattle.mt_settings.specs.Words.{settings_of};
 ghost use Rattle.mt_settings.specs.declared.fault.UsageFault.{UsageFault};
 ghost use Rattle.mt_settings.specs.declared.settings.Settings.{Settings};
 ghost use Rattle.mt_server.specs.declared.status.ServeEnd.TheVariants.{NoLink};
 ghost use Rattle.mt_server.specs.Guarantees.{HasRun, HasServed};
 ghost use Rattle.mt_server.specs.Lines.{SaysLine, line_of, usage_line};
-ghost use Rattle.mt_server.specs.Rounds.{account_side, door_side, joined, link_side, side_of, size_of};
+ghost use Rattle.mt_server.specs.Events.{account_side, door_side, joined, link_side, side_of, size_of};
 ghost use Rattle.mt_server.specs.Statuses.{ByBytes, ByDisk, ByDoor, ByLink, IsBegun, IsOfServe, IsOfSession, IsReadyAfter, IsSilent, IsUnopened, WantsServe, WantsSession};
 
 use crate::line::say;
@@ -39,18 +39,19 @@ pub(crate) fn run<S: Source, K: Sink, D: Disk, C: Clock, W: Door>(
 ) -> Status
     requires rest { IsAtRest D.seen D.may_leave disk.old }
     requires fit { ForSome (D.seen disk.old) Fit }
-    requires door { ForSome (W.given_back door.old) (λ links. length links ≤ W.taken door.old) }
+    requires door { W.over door.old + W.kept door.old ≡ W.taken door.old }
+    requires none_kept { W.kept door.old ≡ 0 }
     ensures session { (settings : Settings) → WantsSession (map string_bytes words.now) settings → (base : State Bytes) (h : History) → ForSome (D.seen disk.old) (HasHistory base h) → (k : History) × (used : ℕ) ×
-        HasRun (setting (is_some (S.left source.old)) (is_some (D.seen disk.old)) (C.gives (C.rule clock.old)) settings.login settings.log_limit base)
+        HasRun (setting (is_some (S.left source.old)) (is_some (D.seen disk.old)) (at_any_call C.gives (C.rule clock.old)) settings.login settings.log_limit base)
         (D.may_leave disk.new) (LeavesOnly D.moment D.left_since disk.old disk.new) (size_of (D.seen disk.new))
         (joined (link_side (S.left source.old) (K.got sink.old) (S.read_faults source.old) (K.write_faults sink.old)) (account_side h (size_of (D.seen disk.old)) (D.faults disk.old))) result
         (joined (link_side (S.left source.new) (K.got sink.new) (S.read_faults source.new) (K.write_faults sink.new)) (account_side k used (D.faults disk.new))) }
     ensures serve { (settings : Settings) (connections : ℕ) → WantsServe (map string_bytes words.now) settings connections → (base : State Bytes) (h : History) → ForSome (D.seen disk.old) (HasHistory base h) → (k : History) × (used : ℕ) ×
         HasServed (side_of W.Link.left W.Link.got W.Link.read_faults W.Link.write_faults) W.Link.stays
-        (setting false (is_some (D.seen disk.old)) (C.gives (C.rule clock.old)) settings.login settings.log_limit base) connections
+        (setting false (is_some (D.seen disk.old)) (at_any_call C.gives (C.rule clock.old)) settings.login settings.log_limit base) connections
         (D.may_leave disk.new) (LeavesOnly D.moment D.left_since disk.old disk.new) (size_of (D.seen disk.new))
-        (account_side h (size_of (D.seen disk.old)) (D.faults disk.old)) (door_side (W.waiting door.old) (W.given_back door.old) (W.taken door.old) (W.door_faults door.old)) result
-        (account_side k used (D.faults disk.new)) (door_side (W.waiting door.new) (W.given_back door.new) (W.taken door.new) (W.door_faults door.new)) }
+        (account_side h (size_of (D.seen disk.old)) (D.faults disk.old)) (door_side (W.waiting door.old) (W.given_back door.old) (W.taken door.old) (W.over door.old) (W.door_faults door.old)) result
+        (account_side k used (D.faults disk.new)) (door_side (W.waiting door.new) (W.given_back door.new) (W.taken door.new) (W.over door.new) (W.door_faults door.new)) }
     ensures of_session { (settings : Settings) → WantsSession (map string_bytes words.now) settings → IsOfSession result × (door.new ≡ door.old) }
     ensures of_serve { (settings : Settings) (connections : ℕ) → WantsServe (map string_bytes words.now) settings connections → IsOfServe result × (source.new ≡ source.old) × (IsBegun result → sink.new ≡ sink.old) }
     ensures words { (fault : UsageFault) → settings_of (map string_bytes words.now) ≡ Err fault → ((result ≡ Status.Usage) ⊎ (result ≡ Status.OutOfMemory)) × (source.new ≡ source.old) × (disk.new ≡ disk.old) × (door.new ≡ door.old) }

@@ -1,9 +1,10 @@
-//! Many connections: the links of a door, one after another, each of which is given back.
-ghost use Rattle.std.specs.Prelude.{◌≡◌, ◌≢◌, ◌≤◌, ℕ, false, true, length, is_some, Some};
+//! Many connections: turns of the links of a door, one after another, each of which is given back.
+ghost use Rattle.std.specs.Prelude.{◌≡◌, ◌≢◌, ◌<◌, ◌+◌, ℕ, false, true, is_some, Some};
 ghost use Rattle.std.specs.Option.{ForSome};
 ghost use Rattle.mt_base.specs.Counts.{NeverFell, Rose};
 ghost use Rattle.mt_base.specs.Lists.{IsPrefixOf};
 ghost use Rattle.mt_disk.specs.CrashModel.{IsAtRest, LeavesOnly};
+ghost use Rattle.mt_edge.specs.Doors.{as_count};
 ghost use Rattle.mt_log.specs.LogImage.{Fit, SameLog};
 ghost use Rattle.mt_log.specs.LogState.{Stands};
 ghost use Rattle.mt_model.specs.State.{State};
@@ -13,22 +14,23 @@ ghost use Rattle.mt_engine.specs.Opening.{IsReadable, IsRefused, KeepsLogs};
 ghost use Rattle.mt_engine.specs.declared.opening.Unreadable.{Unreadable};
 ghost use Rattle.mt_connection.specs.Endings.{Images};
 ghost use Rattle.mt_connection.specs.Sides.{sides, told_size};
-ghost use Rattle.mt_connection.specs.Transcript.{Over, setting};
+ghost use Rattle.mt_connection.specs.Transcript.{Over, at_any_call, setting};
 ghost use Rattle.mt_server.specs.Guarantees.{Connected, HasServed, Visit};
 ghost use Rattle.mt_server.specs.Lines.{SaysLine, line_of};
-ghost use Rattle.mt_server.specs.Rounds.{account_side, door_side, joined, link_side, side_of, size_of};
-ghost use Rattle.mt_server.specs.Statuses.{ByDisk, ByDoor, TurnCounts, IsBegun, IsOfServe, IsReadyAfter, IsSilent, IsUnopened, over_by};
+ghost use Rattle.mt_server.specs.Events.{account_side, door_side, end_breaks, joined, link_side, side_of, size_of};
+ghost use Rattle.mt_server.specs.Statuses.{ByDisk, ByDoor, IsAskedFor, IsBegun, IsOfServe, IsReadyAfter, IsSilent, IsUnopened, TurnCounts, end_of};
 
+use crate::came::Came;
 use crate::opening::open_store;
 use crate::session::MOST_MESSAGES;
 use crate::status::{ServeEnd, Status};
 use mt_connection::{ConnectionEnd, serve_connection};
 use mt_disk::Disk;
-use mt_edge::{Both, Clock, Door, Sink};
+use mt_edge::{Both, Clock, Door, Next, Sink};
 use mt_engine::Engine;
 use std::alloc::Global;
 
-// Serves one link, and gives it back with the end of its connection.
+// Serves one turn of a link, and gives it back with the end of the turn.
 fn serve_link<L: Both, D: Disk, C: Clock>(
     alloc: Global,
     login: &str,
@@ -42,7 +44,7 @@ fn serve_link<L: Both, D: Disk, C: Clock>(
     requires version { engine.old.log.is_old ≡ false }
     requires serves { Serves (D.seen disk.old) engine.old }
     ensures served { (base : State Bytes) (h : History) → Over (D.seen disk.old) engine.old base h → (k : History) × (named : History) ×
-        Connected (setting (is_some (L.left link)) (is_some (D.seen disk.old)) (C.gives (C.rule clock.old)) login.now engine.old.log.limit base)
+        Connected (setting (is_some (L.left link)) (is_some (D.seen disk.old)) (at_any_call C.gives (C.rule clock.old)) login.now engine.old.log.limit base)
         (joined (side_of L.left L.got L.read_faults L.write_faults link) (account_side h (told_size (D.seen disk.old) engine.old) (D.faults disk.old))) result.1
         (joined (side_of L.left L.got L.read_faults L.write_faults result.0) (account_side k (told_size (D.seen disk.new) engine.new) (D.faults disk.new))) named
         × (is_some (D.seen disk.old) ≡ true → Images result.1 base k named (D.may_leave disk.new))
@@ -64,7 +66,7 @@ fn serve_link<L: Both, D: Disk, C: Clock>(
     (link, end)
 }
 
-// Takes a link from the door, serves it and gives it back.
+// Takes a link from the door, serves one turn of it and gives it back.
 fn visit<W: Door, D: Disk, C: Clock>(
     alloc: Global,
     login: &str,
@@ -72,61 +74,83 @@ fn visit<W: Door, D: Disk, C: Clock>(
     disk: &mut D,
     clock: &mut C,
     door: &mut W,
-) -> Option<ConnectionEnd>
+    fresh: bool,
+) -> Came
     requires stands { Stands D.seen D.may_leave disk.old engine.old.log }
     requires is_open { engine.old.log.closed ≡ false }
     requires version { engine.old.log.is_old ≡ false }
     requires serves { Serves (D.seen disk.old) engine.old }
-    requires door { ForSome (W.given_back door.old) (λ links. length links ≤ W.taken door.old) }
+    requires back { W.over door.old + W.kept door.old ≡ W.taken door.old }
+    requires some { fresh ≡ false → 0 < W.kept door.old }
     ensures visit { (base : State Bytes) (h : History) → Over (D.seen disk.old) engine.old base h → (k : History) ×
         Visit (side_of W.Link.left W.Link.got W.Link.read_faults W.Link.write_faults) W.Link.stays
-        (setting false (is_some (D.seen disk.old)) (C.gives (C.rule clock.old)) login.now engine.old.log.limit base) (D.may_leave disk.new)
-        (account_side h (told_size (D.seen disk.old) engine.old) (D.faults disk.old)) (door_side (W.waiting door.old) (W.given_back door.old) (W.taken door.old) (W.door_faults door.old)) result
-        (account_side k (told_size (D.seen disk.new) engine.new) (D.faults disk.new)) (door_side (W.waiting door.new) (W.given_back door.new) (W.taken door.new) (W.door_faults door.new))
+        (setting false (is_some (D.seen disk.old)) (at_any_call C.gives (C.rule clock.old)) login.now engine.old.log.limit base) (D.may_leave disk.new)
+        (account_side h (told_size (D.seen disk.old) engine.old) (D.faults disk.old)) (door_side (W.waiting door.old) (W.given_back door.old) (W.taken door.old) (W.over door.old) (W.door_faults door.old)) result
+        (account_side k (told_size (D.seen disk.new) engine.new) (D.faults disk.new)) (door_side (W.waiting door.new) (W.given_back door.new) (W.taken door.new) (W.over door.new) (W.door_faults door.new))
         × (engine.new.log.closed ≡ false → Over (D.seen disk.new) engine.new base k)
         × IsPrefixOf h k × (is_some (D.seen disk.old) ≡ true → LeavesOnly D.moment D.left_since disk.old disk.new (IsBetween base h k)) }
     ensures stands { Stands D.seen D.may_leave disk.new engine.new.log }
     ensures serves { Serves (D.seen disk.new) engine.new }
     ensures told { engine.new.log.closed ≡ false → is_some (D.seen disk.new) ≡ is_some (D.seen disk.old) }
-    ensures live { result ≢ Some ConnectionEnd.Disk → result ≢ Some ConnectionEnd.Memory → engine.new.log.closed ≡ false }
+    ensures live { end_of result ≢ Some ConnectionEnd.Disk → end_of result ≢ Some ConnectionEnd.Memory → engine.new.log.closed ≡ false }
     ensures version { engine.new.log.closed ≡ false → engine.new.log.is_old ≡ false }
     ensures limit { engine.new.log.closed ≡ false → engine.new.log.limit ≡ engine.old.log.limit }
     ensures faults { NeverFell (D.faults disk.old) (D.faults disk.new) }
-    ensures by_disk { result ≡ Some ConnectionEnd.Disk → Rose (D.faults disk.old) (D.faults disk.new) }
-    ensures counts { TurnCounts result (W.taken door.old) (W.door_faults door.old) (W.taken door.new) (W.door_faults door.new) }
+    ensures by_disk { end_of result ≡ Some ConnectionEnd.Disk → Rose (D.faults disk.old) (D.faults disk.new) }
+    ensures counts { TurnCounts result (W.taken door.old) (W.over door.old) (W.door_faults door.old) (W.taken door.new) (W.over door.new) (W.door_faults door.new) }
+    ensures asked_for { IsAskedFor fresh result }
     ensures rule { C.rule clock.new ≡ C.rule clock.old }
-    ensures door { ForSome (W.given_back door.new) (λ links. length links ≤ W.taken door.new) }
+    ensures back { W.over door.new + W.kept door.new ≡ W.taken door.new }
 {
-    match door.next() {
-        None => None,
-        Some(link) => {
+    match door.next(fresh) {
+        Next::New(link) => {
             let (given, end) = serve_link(alloc, login, engine, disk, clock, link);
-            door.done(given);
-            Some(end)
+            let over = door.done(given);
+            Came::Had {
+                first: true,
+                over,
+                end,
+            }
         }
+        Next::Again(link) => {
+            let (given, end) = serve_link(alloc, login, engine, disk, clock, link);
+            let over = door.done(given);
+            Came::Had {
+                first: false,
+                over,
+                end,
+            }
+        }
+        Next::Woken => Came::Woke,
+        Next::Failed => Came::NoLink,
     }
 }
 
-// How the serving of links ends by a turn at the door, or that it goes on.
-fn over_by(turn: Option<ConnectionEnd>) -> Option<ServeEnd>
-    ensures { result ≡ over_by turn }
+// How the serving of links ends by the end of a turn, or that it goes on.
+fn end_breaks(end: ConnectionEnd) -> Option<ServeEnd>
+    ensures { result ≡ end_breaks end }
 {
-    match turn {
-        None => Some(ServeEnd::NoLink),
-        Some(ConnectionEnd::Disk) => Some(ServeEnd::Disk),
-        Some(ConnectionEnd::Memory) => Some(ServeEnd::Memory),
-        Some(
-            ConnectionEnd::Ended
-            | ConnectionEnd::Many
-            | ConnectionEnd::Truncated
-            | ConnectionEnd::Refused
-            | ConnectionEnd::SourceFault
-            | ConnectionEnd::SinkFault,
-        ) => None,
+    match end {
+        ConnectionEnd::Disk => Some(ServeEnd::Disk),
+        ConnectionEnd::Memory => Some(ServeEnd::Memory),
+        ConnectionEnd::Ended
+        | ConnectionEnd::Many
+        | ConnectionEnd::Truncated
+        | ConnectionEnd::Refused
+        | ConnectionEnd::SourceFault
+        | ConnectionEnd::SinkFault => None,
     }
 }
 
-// Serves so many links of a door.
+// One more, or as many.
+fn add(count: u64, more: bool) -> u64
+    requires { count + as_count more < 18446744073709551616 }
+    ensures { result ≡ count + as_count more }
+{
+    if more { count + 1 } else { count }
+}
+
+// Serves so many links of a door, each until it is over.
 fn serve_links<W: Door, D: Disk, C: Clock>(
     alloc: Global,
     login: &str,
@@ -140,25 +164,43 @@ fn serve_links<W: Door, D: Disk, C: Clock>(
     requires is_open { engine.old.log.closed ≡ false }
     requires version { engine.old.log.is_old ≡ false }
     requires serves { Serves (D.seen disk.old) engine.old }
-    requires door { ForSome (W.given_back door.old) (λ links. length links ≤ W.taken door.old) }
+    requires door { W.over door.old + W.kept door.old ≡ W.taken door.old }
+    requires none_kept { W.kept door.old ≡ 0 }
     ensures served { (base : State Bytes) (h : History) → Over (D.seen disk.old) engine.old base h → (k : History) ×
         HasServed (side_of W.Link.left W.Link.got W.Link.read_faults W.Link.write_faults) W.Link.stays
-        (setting false (is_some (D.seen disk.old)) (C.gives (C.rule clock.old)) login.now engine.old.log.limit base) connections
+        (setting false (is_some (D.seen disk.old)) (at_any_call C.gives (C.rule clock.old)) login.now engine.old.log.limit base) connections
         (D.may_leave disk.new) (LeavesOnly D.moment D.left_since disk.old disk.new) (size_of (D.seen disk.new))
-        (account_side h (told_size (D.seen disk.old) engine.old) (D.faults disk.old)) (door_side (W.waiting door.old) (W.given_back door.old) (W.taken door.old) (W.door_faults door.old)) (Status.Serve result)
-        (account_side k (told_size (D.seen disk.new) engine.new) (D.faults disk.new)) (door_side (W.waiting door.new) (W.given_back door.new) (W.taken door.new) (W.door_faults door.new)) }
+        (account_side h (told_size (D.seen disk.old) engine.old) (D.faults disk.old)) (door_side (W.waiting door.old) (W.given_back door.old) (W.taken door.old) (W.over door.old) (W.door_faults door.old)) (Status.Serve result)
+        (account_side k (told_size (D.seen disk.new) engine.new) (D.faults disk.new)) (door_side (W.waiting door.new) (W.given_back door.new) (W.taken door.new) (W.over door.new) (W.door_faults door.new)) }
     ensures by_disk { ByDisk (Status.Serve result) (D.faults disk.old) (D.faults disk.new) }
     ensures rest { result ≢ ServeEnd.Disk → result ≢ ServeEnd.Memory → IsAtRest D.seen D.may_leave disk.new × ForSome (D.seen disk.new) Fit }
     ensures by_door { ByDoor (Status.Serve result) connections (W.taken door.old) (W.door_faults door.old) (W.taken door.new) (W.door_faults door.new) }
     ensures rule { C.rule clock.new ≡ C.rule clock.old }
 {
-    for _served in 0..connections {
-        let turn = visit(alloc, login, engine, disk, clock, door);
-        if let Some(end) = over_by(turn) {
-            return end;
+    let mut taken = 0u64;
+    let mut over = 0u64;
+    'events: for _event in 0..u64::MAX {
+        if over == connections {
+            return ServeEnd::Served;
+        }
+        let fresh = taken < connections;
+        match visit(alloc, login, engine, disk, clock, door, fresh) {
+            Came::Had {
+                first,
+                over: last,
+                end,
+            } => {
+                if let Some(end) = end_breaks(end) {
+                    return end;
+                }
+                taken = add(taken, first);
+                over = add(over, last);
+            }
+            Came::Woke => {}
+            Came::NoLink => return ServeEnd::NoLink,
         }
     }
-    ServeEnd::Served
+    ServeEnd::Spent
 }
 
 // Opens the store and serves so many links of a door.
@@ -174,13 +216,14 @@ pub(crate) fn serve<K: Sink, D: Disk, C: Clock, W: Door>(
 ) -> Status
     requires rest { IsAtRest D.seen D.may_leave disk.old }
     requires fit { ForSome (D.seen disk.old) Fit }
-    requires door { ForSome (W.given_back door.old) (λ links. length links ≤ W.taken door.old) }
+    requires door { W.over door.old + W.kept door.old ≡ W.taken door.old }
+    requires none_kept { W.kept door.old ≡ 0 }
     ensures served { (base : State Bytes) (h : History) → ForSome (D.seen disk.old) (HasHistory base h) → (k : History) × (used : ℕ) ×
         HasServed (side_of W.Link.left W.Link.got W.Link.read_faults W.Link.write_faults) W.Link.stays
-        (setting false (is_some (D.seen disk.old)) (C.gives (C.rule clock.old)) login.now limit base) connections
+        (setting false (is_some (D.seen disk.old)) (at_any_call C.gives (C.rule clock.old)) login.now limit base) connections
         (D.may_leave disk.new) (LeavesOnly D.moment D.left_since disk.old disk.new) (size_of (D.seen disk.new))
-        (account_side h (size_of (D.seen disk.old)) (D.faults disk.old)) (door_side (W.waiting door.old) (W.given_back door.old) (W.taken door.old) (W.door_faults door.old)) result
-        (account_side k used (D.faults disk.new)) (door_side (W.waiting door.new) (W.given_back door.new) (W.taken door.new) (W.door_faults door.new)) }
+        (account_side h (size_of (D.seen disk.old)) (D.faults disk.old)) (door_side (W.waiting door.old) (W.given_back door.old) (W.taken door.old) (W.over door.old) (W.door_faults door.old)) result
+        (account_side k used (D.faults disk.new)) (door_side (W.waiting door.new) (W.given_back door.new) (W.taken door.new) (W.over door.new) (W.door_faults door.new)) }
     ensures of_serve { IsOfServe result }
     ensures begun { IsBegun result → (sink.new ≡ sink.old) × ForSome (D.seen disk.old) IsReadable }
     ensures unopened { IsUnopened result → (door.new ≡ door.old) × ForSome (D.seen disk.old) (λ files. LeavesOnly D.moment D.left_since disk.old disk.new (SameLog files)) }

@@ -10,10 +10,10 @@ ghost use Rattle.mt_engine.specs.History.{Bytes, HasHistory, History};
 ghost use Rattle.mt_engine.specs.Opening.{IsReadable, IsRefused, KeepsLogs};
 ghost use Rattle.mt_engine.specs.declared.opening.Unreadable.{Unreadable};
 ghost use Rattle.mt_connection.specs.Sides.{sides};
-ghost use Rattle.mt_connection.specs.Transcript.{Over, setting};
+ghost use Rattle.mt_connection.specs.Transcript.{Over, at_any_call, setting};
 ghost use Rattle.mt_server.specs.Guarantees.{HasRun};
 ghost use Rattle.mt_server.specs.Lines.{SaysLine, line_of};
-ghost use Rattle.mt_server.specs.Rounds.{account_side, joined, link_side, size_of};
+ghost use Rattle.mt_server.specs.Events.{account_side, joined, link_side, size_of};
 ghost use Rattle.mt_server.specs.Statuses.{ByBytes, ByDisk, ByLink, IsBegun, IsOfSession, IsReadyAfter, IsSilent, IsUnopened};
 
 use crate::opening::open_store;
@@ -42,7 +42,7 @@ fn serve_joined<S: Source, K: Sink, D: Disk, C: Clock>(
     requires version { engine.old.log.is_old ≡ false }
     requires serves { Serves (D.seen disk.old) engine.old }
     ensures run { (base : State Bytes) (h : History) → Over (D.seen disk.old) engine.old base h → (k : History) ×
-        HasRun (setting (is_some (S.left source.old)) (is_some (D.seen disk.old)) (C.gives (C.rule clock.old)) login.now engine.old.log.limit base)
+        HasRun (setting (is_some (S.left source.old)) (is_some (D.seen disk.old)) (at_any_call C.gives (C.rule clock.old)) login.now engine.old.log.limit base)
         (D.may_leave disk.new) (LeavesOnly D.moment D.left_since disk.old disk.new) (size_of (D.seen disk.new))
         (sides (link_side (S.left source.old) (K.got sink.old) (S.read_faults source.old) (K.write_faults sink.old)) h (D.seen disk.old) (D.faults disk.old) engine.old) (Status.Session result)
         (sides (link_side (S.left source.new) (K.got sink.new) (S.read_faults source.new) (K.write_faults sink.new)) k (D.seen disk.new) (D.faults disk.new) engine.new) }
@@ -71,7 +71,7 @@ pub(crate) fn session<S: Source, K: Sink, D: Disk, C: Clock>(
     requires rest { IsAtRest D.seen D.may_leave disk.old }
     requires fit { ForSome (D.seen disk.old) Fit }
     ensures run { (base : State Bytes) (h : History) → ForSome (D.seen disk.old) (HasHistory base h) → (k : History) × (used : ℕ) ×
-        HasRun (setting (is_some (S.left source.old)) (is_some (D.seen disk.old)) (C.gives (C.rule clock.old)) login.now limit base)
+        HasRun (setting (is_some (S.left source.old)) (is_some (D.seen disk.old)) (at_any_call C.gives (C.rule clock.old)) login.now limit base)
         (D.may_leave disk.new) (LeavesOnly D.moment D.left_since disk.old disk.new) (size_of (D.seen disk.new))
         (joined (link_side (S.left source.old) (K.got sink.old) (S.read_faults source.old) (K.write_faults sink.old)) (account_side h (size_of (D.seen disk.old)) (D.faults disk.old))) result
         (joined (link_side (S.left source.new) (K.got sink.new) (S.read_faults source.new) (K.write_faults sink.new)) (account_side k used (D.faults disk.new))) }

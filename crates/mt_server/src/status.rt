@@ -8,7 +8,7 @@ use mt_engine::Unreadable;
 /// How the serving of links ended.
 #[derive(Clone, Copy, Debug, PartialEq, Eq)]
 pub enum ServeEnd {
-    /// 0: as many links as were asked for were taken, served and given back.
+    /// 0: as many links as were asked for were taken, and each was served until it was over.
     Served,
     /// 10: the door failed before that, and counted it.
     NoLink,
@@ -16,6 +16,8 @@ pub enum ServeEnd {
     Disk,
     /// 8: memory was wanted. The link was given back.
     Memory,
+    /// 8: 2 ^ 64 - 1 times a link had its turn or the door was woken, and not all links are over.
+    Spent,
 }
 
 /// How a run ended.
@@ -57,6 +59,7 @@ impl Status {
             Status::Serve(ServeEnd::Disk) => 5,
             Status::Serve(ServeEnd::Memory) => 8,
             Status::Serve(ServeEnd::NoLink) => 10,
+            Status::Serve(ServeEnd::Spent) => 8,
         }
     }
 }

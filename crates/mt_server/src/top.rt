@@ -1,5 +1,5 @@
 //! The top call of the program.
-ghost use Rattle.std.specs.Prelude.{◌≡◌, ◌≢◌, ◌≤◌, ◌<◌, ◌+◌, ◌⊎◌, ℕ, false, true, length, is_some, IfSome, map, string_bytes};
+ghost use Rattle.std.specs.Prelude.{◌≡◌, ◌≢◌, ◌<◌, ◌+◌, ◌⊎◌, ℕ, false, true, is_some, IfSome, map, string_bytes};
 ghost use Rattle.std.specs.Option.{ForSome};
 ghost use Rattle.mt_base.specs.Counts.{Rose};
 ghost use Rattle.mt_disk.specs.CrashModel.{IsAtRest, LeavesOnly};
@@ -9,13 +9,13 @@ ghost use Rattle.mt_engine.specs.History.{Bytes, HasHistory, History};
 ghost use Rattle.mt_engine.specs.Opening.{IsRefused, KeepsLogs};
 ghost use Rattle.mt_engine.specs.declared.opening.Unreadable.{Unreadable};
 ghost use Rattle.mt_connection.specs.Outcomes.{Outcome, OutcomeAt};
-ghost use Rattle.mt_connection.specs.Transcript.{setting};
+ghost use Rattle.mt_connection.specs.Transcript.{at_any_call, setting};
 ghost use Rattle.mt_settings.specs.Words.{settings_of};
 ghost use Rattle.mt_settings.specs.declared.fault.UsageFault.{UsageFault};
 ghost use Rattle.mt_settings.specs.declared.settings.Settings.{Settings};
 ghost use Rattle.mt_server.specs.Guarantees.{HasRun, HasServed};
 ghost use Rattle.mt_server.specs.Lines.{SaysLine, line_of, usage_line};
-ghost use Rattle.mt_server.specs.Rounds.{account_side, door_side, joined, link_side, side_of, size_of};
+ghost use Rattle.mt_server.specs.Events.{account_side, door_side, joined, link_side, side_of, size_of};
 ghost use Rattle.mt_server.specs.Statuses.{Asked, IsBroken, WantsServe, WantsSession, code_of, most_messages};
 ghost use Rattle.mt_server.specs.declared.status.Status.{Status};
 
@@ -29,19 +29,19 @@ use std::alloc::Global;
 ///
 /// | Status | Cause |
 /// |---|---|
-/// | 0 | a session: the source was read to its end, or to a message that closes; a serve: all links were served |
+/// | 0 | a session: the source was read to its end, or to a message that closes; a serve: all links were served, and are over |
 /// | 1 | the words are not of the grammar |
 /// | 2 | the log cannot be read |
 /// | 3, 4 | a session: the source, the sink failed, and counted it |
 /// | 5 | the disk failed, and counted it |
-/// | 8 | memory was wanted |
+/// | 8 | memory was wanted; a serve: or 2 ^ 64 - 1 turns were taken and wakings came |
 /// | 10 | a serve: the door failed before all links were taken, and counted it |
 /// | 11 | a session: the source ended within a message |
 /// | 12 | a session: no message stands at a place, or one that is too large; its refusal was written |
 /// | 13 | a session: 16,777,216 messages were answered, and none closes |
 ///
-/// The disk is to be at rest, and to have no second log where its Head is empty, and no more links are to have been given back than
-/// were taken; each is asked only where it is told.
+/// The disk is to be at rest, and to have no second log where its Head is empty; each is asked only where it is told. Each link that
+/// was taken from the door is to be over.
 pub fn mantad<S: Source, K: Sink, D: Disk, P: Spawner, C: Clock, W: Door>(
     alloc: Global,
     words: &[String],
@@ -54,24 +54,25 @@ pub fn mantad<S: Source, K: Sink, D: Disk, P: Spawner, C: Clock, W: Door>(
 ) -> u8
     requires rest { IsAtRest D.seen D.may_leave disk.old }
     requires fit { ForSome (D.seen disk.old) Fit }
-    requires door { ForSome (W.given_back door.old) (λ links. length links ≤ W.taken door.old) }
+    requires door { W.over door.old + W.kept door.old ≡ W.taken door.old }
+    requires none_kept { W.kept door.old ≡ 0 }
 
     // A session over each base and history that the disk stands for at entry: the transcript, durable at exit, what a crash leaves at
     // any moment, a reply implies durable.
     ensures run { (settings : Settings) → WantsSession (map string_bytes words.now) settings → (base : State Bytes) (h : History) → ForSome (D.seen disk.old) (HasHistory base h)
         → (end : Status) × (result ≡ code_of end) × (k : History) × (used : ℕ) ×
-        HasRun (setting (is_some (S.left source.old)) (is_some (D.seen disk.old)) (C.gives (C.rule clock.old)) settings.login settings.log_limit base)
+        HasRun (setting (is_some (S.left source.old)) (is_some (D.seen disk.old)) (at_any_call C.gives (C.rule clock.old)) settings.login settings.log_limit base)
         (D.may_leave disk.new) (LeavesOnly D.moment D.left_since disk.old disk.new) (size_of (D.seen disk.new))
         (joined (link_side (S.left source.old) (K.got sink.old) (S.read_faults source.old) (K.write_faults sink.old)) (account_side h (size_of (D.seen disk.old)) (D.faults disk.old))) end
         (joined (link_side (S.left source.new) (K.got sink.new) (S.read_faults source.new) (K.write_faults sink.new)) (account_side k used (D.faults disk.new))) }
-    // The same of a serve: the rounds of the links of the door.
+    // The same of a serve: the turns of the links of the door.
     ensures served { (settings : Settings) (connections : ℕ) → WantsServe (map string_bytes words.now) settings connections → (base : State Bytes) (h : History) → ForSome (D.seen disk.old) (HasHistory base h)
         → (end : Status) × (result ≡ code_of end) × (k : History) × (used : ℕ) ×
         HasServed (side_of W.Link.left W.Link.got W.Link.read_faults W.Link.write_faults) W.Link.stays
-        (setting false (is_some (D.seen disk.old)) (C.gives (C.rule clock.old)) settings.login settings.log_limit base) connections
+        (setting false (is_some (D.seen disk.old)) (at_any_call C.gives (C.rule clock.old)) settings.login settings.log_limit base) connections
         (D.may_leave disk.new) (LeavesOnly D.moment D.left_since disk.old disk.new) (size_of (D.seen disk.new))
-        (account_side h (size_of (D.seen disk.old)) (D.faults disk.old)) (door_side (W.waiting door.old) (W.given_back door.old) (W.taken door.old) (W.door_faults door.old)) end
-        (account_side k used (D.faults disk.new)) (door_side (W.waiting door.new) (W.given_back door.new) (W.taken door.new) (W.door_faults door.new)) }
+        (account_side h (size_of (D.seen disk.old)) (D.faults disk.old)) (door_side (W.waiting door.old) (W.given_back door.old) (W.taken door.old) (W.over door.old) (W.door_faults door.old)) end
+        (account_side k used (D.faults disk.new)) (door_side (W.waiting door.new) (W.given_back door.new) (W.taken door.new) (W.over door.new) (W.door_faults door.new)) }
 
     // An early exit touches nothing but for its line.
     ensures early_usage { result ≡ 1 → (source.new ≡ source.old) × (disk.new ≡ disk.old) × (door.new ≡ door.old)

@@ -1,5 +1,5 @@
 -- What the calls of a spawner do to its children and its counts.
-use Rattle.std.specs.Prelude.{◌≡◌, ◌==◌, ◌⊎◌, ℕ, ◌+◌, min, Bool, false, not, List, [], ◌∷◌, ◌++◌, length, map, filter, Option, Some, None, IfSome}
+use Rattle.std.specs.Prelude.{◌≡◌, ◌==◌, ℕ, ◌+◌, min, Bool, false, not, List, [], ◌∷◌, ◌++◌, length, map, filter, Option, Some, None, IfSome}
 use Rattle.std.specs.List.{AllZip, Contains, list_any}
 use Rattle.std.specs.Io.KnownBytes.{IsAtEnd}
 use Rattle.mt_base.specs.Counts.{NeverFell, Rose, RoseBy}
@@ -109,5 +109,5 @@ module _ {F : Type 0} where
   Waits may old (waited.Ended ticket left) held told new = HasEnded may ticket.number old left told new × (held ≡ Some left)
   Waits may old waited.NotYet held told new = AllWait old new × (held ≡ None)
   Waits may old (waited.Failed ticket) held told new = IsGone ticket.number old new × Rose old.faults new.faults × (held ≡ None)
-  Waits may old waited.Memory held told new =
-      (SameLive old new ⊎ ((t : ℕ) × IsGone t old new)) × NeverFell old.faults new.faults × (held ≡ None)
+  Waits may old (waited.Lost ticket) held told new = IsGone ticket.number old new × NeverFell old.faults new.faults × (held ≡ None)
+  Waits may old waited.Memory held told new = SameLive old new × NeverFell old.faults new.faults × (held ≡ None)

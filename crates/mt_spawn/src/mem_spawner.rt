@@ -15,6 +15,8 @@ pub struct Script {
     pub starts_fail: Vec<u64>,
     /// The waits that fail, each with the child that was started first.
     pub waits_fail: Vec<u64>,
+    /// The waits that are out of memory with the child that was started first.
+    pub waits_lose: Vec<u64>,
     /// The reads that fail.
     pub reads_fail: Vec<u64>,
 }
@@ -27,6 +29,7 @@ impl Script {
             otherwise: Vec::new(alloc),
             starts_fail: Vec::new(alloc),
             waits_fail: Vec::new(alloc),
+            waits_lose: Vec::new(alloc),
             reads_fail: Vec::new(alloc),
         }
     }
@@ -157,7 +160,8 @@ impl<W: Work> Spawner for MemSpawner<W> {
         self.running.begin(alloc, order, bytes, due, otherwise)
     }
 
-    fn wait(&mut self, alloc: Global) -> Waited {
+    // It never waits, patient or not.
+    fn wait(&mut self, alloc: Global, _patient: bool) -> Waited {
         let number = self.waited;
         self.waited = self.waited.saturating_add(1);
         if self.script.waits_fail.contains(&number) {
@@ -166,6 +170,13 @@ impl<W: Work> Spawner for MemSpawner<W> {
                 self.running.children.remove(ticket);
                 self.faults = self.faults.saturating_add(1);
                 return Waited::Failed(Ticket { number: ticket });
+            }
+        }
+        if self.script.waits_lose.contains(&number) {
+            if let Some(child) = self.running.children.items.first() {
+                let ticket = child.ticket;
+                self.running.children.remove(ticket);
+                return Waited::Lost(Ticket { number: ticket });
             }
         }
         match self.running.children.first_due(number) {

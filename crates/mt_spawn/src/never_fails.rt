@@ -34,7 +34,7 @@ impl<W: Work> Spawner for NeverFails<MemSpawner<W>> {
         self.inner.running.begin(alloc, order, bytes, 0, false)
     }
 
-    fn wait(&mut self, alloc: Global) -> Waited {
+    fn wait(&mut self, alloc: Global, _patient: bool) -> Waited {
         if self.inner.running.children.len() == 0 {
             return Waited::Memory;
         }

@@ -59,7 +59,7 @@ impl Spawner for NoSpawner {
     }
 
     // No child lives, so none is waited for, and nothing is held.
-    fn wait(&mut self, _alloc: Global) -> Waited
+    fn wait(&mut self, _alloc: Global, _patient: bool) -> Waited
         ensures { (result ≡ Waited.NotYet) × (self.new ≡ self.old) }
     {
         Waited::NotYet

@@ -4,7 +4,7 @@ use mt_edge::{ReadStep, Source};
 use std::alloc::Global;
 
 /// Children that run beside each other. What one wrote is held once it has ended, read in parts, and let go. No call touches a child
-/// but those that its answer names, and a call that ends in want of memory adds none.
+/// but those that its answer names, and a call that ends out of memory adds none.
 pub trait Spawner {
     ghost use Rattle.std.specs.Prelude.{◌≡◌, ◌<◌, ℕ, List, true, Option, Some, None, length};
     ghost use Rattle.mt_base.specs.Counts.{NeverFell, Rose};
@@ -50,8 +50,9 @@ pub trait Spawner {
         ensures free { held self.new ≡ None }
         ensures rule { rule self.new ≡ rule self.old };
 
-    /// Waits for a child to end, whichever it is, and holds what it left.
-    fn wait(&mut self, alloc: Global) -> Waited
+    /// Waits for a child to end, whichever it is, and holds what it left. A patient wait lasts as long as the spawner likes; any other
+    /// only looks whether one has ended.
+    fn wait(&mut self, alloc: Global, patient: bool) -> Waited
         requires some { 0 < length (seen self.old).live }
         requires free { held self.old ≡ None }
         ensures wait { Waits (may (rule self.old)) (seen self.old) result (held self.new) (told self.new) (seen self.new) }

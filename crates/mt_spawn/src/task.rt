@@ -170,6 +170,8 @@ pub enum Waited {
     NotYet,
     /// The spawner failed with this child, counted it, and the child is gone.
     Failed(Ticket),
-    /// Out of memory. A child may be gone by it.
+    /// Out of memory with this child, which is gone.
+    Lost(Ticket),
+    /// Out of memory. No child is gone.
     Memory,
 }

@@ -2,7 +2,7 @@
 use mt_error::ErrorCode;
 
 /// All errors.
-const ALL: [ErrorCode; 31] = [
+const ALL: [ErrorCode; 32] = [
     ErrorCode::NotBuilt,
     ErrorCode::BadRequest,
     ErrorCode::ResourceNotFound,
@@ -25,6 +25,7 @@ const ALL: [ErrorCode; 31] = [
     ErrorCode::NotEnoughSpace,
     ErrorCode::MethodNotAllowed,
     ErrorCode::Authorization,
+    ErrorCode::OriginRefused,
     ErrorCode::RangeNotSatisfiable,
     ErrorCode::InvalidArgument,
     ErrorCode::InvalidDurabilityLevel,

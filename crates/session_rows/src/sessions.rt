@@ -86,6 +86,13 @@ impl Sessions {
         Ok(())
     }
 
+    // They are those of one more piece of a link.
+    fn add_piece(&mut self, alloc: Global) -> Result<(), Stop> {
+        self.links.add_piece(alloc, &self.ends)?;
+        self.ends = Ends::new(alloc);
+        Ok(())
+    }
+
     // A line of the requests, with its CR LF; other bytes without.
     fn add_request(&mut self, alloc: Global, line: &str) -> Result<(), Stop> {
         if let Some(bytes) = line.strip_prefix(">| ") {
@@ -169,7 +176,9 @@ impl Rows for Sessions {
             "store" => self.read_files(alloc, row),
             "new" => self.forget_files(alloc),
             "requests" => self.forget_requests(),
+            "piece" => self.add_piece(alloc),
             "link" => self.add_link(alloc),
+            "order" => self.links.set_order(alloc, row),
             ">" | ">|" => self.add_request(alloc, line),
             "fail" => self.set_failing(alloc, row),
             "crash" => self.set_picks(alloc, row),

@@ -1,4 +1,6 @@
 //! The files of a store, what is read from and written to, and one run over them.
+ghost use Rattle.std.specs.Prelude.{◌≡◌, ◌<◌, [], length};
+
 use crate::links::Links;
 use mt_disk::{FileNo, MemDisk, Room};
 use mt_edge::{FixedClock, MemDoor, MemSink, MemSource};
@@ -110,7 +112,8 @@ pub struct Left {
     pub status: u8,
     pub sink: MemSink,
     pub disk: MemDisk,
-    door: MemDoor,
+    // What was written to each link that was given back.
+    said: Vec<Vec<u8>>,
 }
 
 impl Left {
@@ -124,28 +127,36 @@ impl Left {
     // The lines of each link that was given back, behind its number.
     fn put_links(&self, out: &mut String) -> Result<(), AllocError> {
         let mut number = 0u64;
-        for link in self.door.given_back() {
+        for said in &self.said {
             number = number.saturating_add(1);
             write!(out, "\n    link {number}")?;
-            put_lines(out, link.sink.written())?;
+            put_lines(out, said)?;
         }
         Ok(())
     }
 }
 
-/// A run by these words over a disk that holds these files. There is none over a second log without a head.
-pub fn run_over(
+// What was written to each link that was given back, in order.
+fn said_to(alloc: Global, door: &MemDoor) -> Result<Vec<Vec<u8>>, AllocError> {
+    let mut said = Vec::new(alloc);
+    for link in door.given_back() {
+        said.push(Vec::from_slice(alloc, link.sink.written())?)?;
+    }
+    Ok(said)
+}
+
+// A run whose door tells its links.
+fn run_told(
     alloc: Global,
     words: &[String],
     files: &Files,
     ends: &Ends,
     links: &Links,
     disk_fails: &[u64],
-) -> Result<Left, Stop> {
+) -> Result<Left, Stop>
+    requires { (files.now.head.items ≡ []) → length files.now.two.items < 9 }
+{
     let Files { head, one, two } = files;
-    if head.is_empty() && two.len() >= LEAST_LOG {
-        return Err(Stop::NoSuchRow);
-    }
     let mut source = ends.source(alloc)?;
     let mut sink = ends.sink(alloc)?;
     let mut disk = MemDisk::new(alloc, head, one, two, ROOM, disk_fails)?;
@@ -160,10 +171,64 @@ pub fn run_over(
         &mut FixedClock::new(0),
         &mut door,
     );
+    let said = said_to(alloc, &door)?;
     Ok(Left {
         status,
         sink,
         disk,
-        door,
+        said,
     })
+}
+
+// A run whose door tells nothing.
+fn run_untold(
+    alloc: Global,
+    words: &[String],
+    files: &Files,
+    ends: &Ends,
+    links: &Links,
+    disk_fails: &[u64],
+) -> Result<Left, Stop>
+    requires { (files.now.head.items ≡ []) → length files.now.two.items < 9 }
+{
+    let Files { head, one, two } = files;
+    let mut source = ends.source(alloc)?;
+    let mut sink = ends.sink(alloc)?;
+    let mut disk = MemDisk::new(alloc, head, one, two, ROOM, disk_fails)?;
+    let mut door = links.turns(alloc)?;
+    let status = mantad(
+        alloc,
+        words,
+        &mut source,
+        &mut sink,
+        &mut disk,
+        &mut NoSpawner::new(),
+        &mut FixedClock::new(0),
+        &mut door,
+    );
+    let said = door.said(alloc)?;
+    Ok(Left {
+        status,
+        sink,
+        disk,
+        said,
+    })
+}
+
+/// A run by these words over a disk that holds these files. There is none over a second log without a head.
+pub fn run_over(
+    alloc: Global,
+    words: &[String],
+    files: &Files,
+    ends: &Ends,
+    links: &Links,
+    disk_fails: &[u64],
+) -> Result<Left, Stop> {
+    if files.head.is_empty() && files.two.len() >= LEAST_LOG {
+        return Err(Stop::NoSuchRow);
+    }
+    if links.have_order() {
+        return run_untold(alloc, words, files, ends, links, disk_fails);
+    }
+    run_told(alloc, words, files, ends, links, disk_fails)
 }

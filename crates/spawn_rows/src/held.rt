@@ -63,15 +63,17 @@ fn put_waited(out: &mut String, waited: &Waited) -> Result<(), AllocError> {
         }
         Waited::NotYet => out.push_str("NotYet"),
         Waited::Failed(ticket) => write!(out, "Failed {}", ticket.number),
+        Waited::Lost(ticket) => write!(out, "Lost {}", ticket.number),
         Waited::Memory => out.push_str("Memory"),
     }
 }
 
-// Waits for a child.
+// Waits for a child, or only looks.
 fn wait<P: Spawner>(
     alloc: Global,
     spawner: &mut P,
     standing: Standing,
+    patient: bool,
     out: &mut String,
 ) -> Result<(), Stop>
     requires free { standing.is_free ≡ true → P.held spawner.old ≡ None }
@@ -80,7 +82,7 @@ fn wait<P: Spawner>(
     if !standing.is_free || !standing.is_some {
         return Err(Stop::NoSuchRow);
     }
-    let waited = spawner.wait(alloc);
+    let waited = spawner.wait(alloc, patient);
     Ok(put_waited(out, &waited)?)
 }
 
@@ -178,7 +180,8 @@ pub fn answer<P: Spawner>(
     requires alive { standing.is_alive ≡ true → lives standing.ticket.number (P.seen spawner.old).live ≡ true }
 {
     match row.text(0)? {
-        "wait" => wait(alloc, spawner, standing, out),
+        "wait" => wait(alloc, spawner, standing, true, out),
+        "look" => wait(alloc, spawner, standing, false, out),
         "read" => read(alloc, spawner, row, out),
         "part" => read_part(spawner, row, out),
         "kill" => kill(spawner, standing),

@@ -33,6 +33,7 @@ impl Plan {
             "otherwise" => &mut self.script.otherwise,
             "starts-fail" => &mut self.script.starts_fail,
             "waits-fail" => &mut self.script.waits_fail,
+            "waits-lose" => &mut self.script.waits_lose,
             "reads-fail" => &mut self.script.reads_fail,
             "too-large" => {
                 self.too_large = Some(row.number(1)?);

@@ -5,6 +5,7 @@ use Rattle.mt_engine.specs.Current.{IsBetween}
 use Rattle.mt_connection.proofs.Completeness.{served_outcome, some_over}
 use Rattle.mt_connection.proofs.Crashes.{all_of, between_from, between_to, front_of_front, images_open, unmoved}
 use Rattle.mt_connection.proofs.Runs.{closing_more, ends_here, ran_here, ran_more, ran_nothing, served_closed, served_many, served_over, still_heard, went_on}
+use Rattle.mt_connection.specs.Transcript.{at_any_call}
 use Rattle.mt_connection.proofs.connection.serve_connection.Goals as goal
 
 pub loop-answered-init : goal.loop-answered-init
@@ -40,7 +41,7 @@ loop-answered-preserved g c =
       so_far = λ base h over.
           let so_far = before.so_far base h over in
           let s = c.in-Went.ensures.step base so_far.1 so_far.5 in
-          let ran = ran_here g.C.Clock.gives c.args.login.now base _ _ _ _ _ _ _ _ (still_heard _ _ _ so_far.2.source) before.told before.rule before.limit _ (s.1.0 ∷ []) _ s.1.2 in (
+          let ran = ran_here (at_any_call g.C.Clock.gives) c.args.login.now base _ _ _ _ _ _ _ _ (still_heard _ _ _ so_far.2.source) before.told before.rule before.limit _ (s.1.0 ∷ []) _ s.1.2 in (
             so_far.0 ++ s.1.0 ∷ [],
             s.0,
             ran_more _ _ so_far.0 _ (s.1.0 ∷ []) _ so_far.3 so_far.2 ran,
@@ -68,7 +69,7 @@ returns-then-last-clause-served g c base h over =
     let is_open = c.in-Went.ensures.live (went_on _ _) (went_on _ _) in
     let so_far = before.so_far base h over in
     let s = c.in-Went.ensures.step base so_far.1 so_far.5 in
-    let ran = ran_here g.C.Clock.gives c.args.login.now base _ _ _ _ _ _ _ _ (still_heard _ _ _ so_far.2.source) before.told before.rule before.limit _ (s.1.0 ∷ []) _ s.1.2 in
+    let ran = ran_here (at_any_call g.C.Clock.gives) c.args.login.now base _ _ _ _ _ _ _ _ (still_heard _ _ _ so_far.2.source) before.told before.rule before.limit _ (s.1.0 ∷ []) _ s.1.2 in
     let few : length so_far.0 < c.args.most = omega (arith, so_far.4) in (
       s.0,
       served_closed _ c.args.most _ so_far.0 s.1.0 _ few (closing_more so_far.0 s.1.0 _ so_far.3 (s.1.1 ∙ c.if-last.true)) (ran_more _ _ so_far.0 _ (s.1.0 ∷ []) _ so_far.3 so_far.2 ran),
@@ -85,7 +86,7 @@ returns-in-Over-clause-served g c base h over =
     let before = c.loop-answered.invariant in
     let so_far = before.so_far base h over in
     let s = c.in-Over.ensures.step base so_far.1 so_far.5 in
-    let ends = ends_here g.C.Clock.gives c.args.login.now base _ _ _ _ _ _ _ _ (still_heard _ _ _ so_far.2.source) before.told before.rule before.limit _ c.in-Over.end _ s.1.0 s.1.1 in (
+    let ends = ends_here (at_any_call g.C.Clock.gives) c.args.login.now base _ _ _ _ _ _ _ _ (still_heard _ _ _ so_far.2.source) before.told before.rule before.limit _ c.in-Over.end _ s.1.0 s.1.1 in (
       s.0,
       served_over _ c.args.most _ so_far.0 _ c.in-Over.end _ s.1.0 (record { none = so_far.3; few = omega (arith, so_far.4) }) so_far.2 s.1.2 ends,
       (λ knows. s.1.3 (before.told ∙ knows)),

@@ -9,7 +9,7 @@ pub returns-in-Some : goal.returns-in-Some
 returns-in-Some c =
     let head = c.args.head.now in
     let path : Ok c.in-Ok.path ≡ path_read c.args.login.now head.target = search rules in
-    let early : Some c.in-Some.early ≡ early_at c.in-Ok.path.area head.method = search rules in
+    let early : Some c.in-Some.early ≡ early_at c.in-Ok.path.area head = search rules in
     let wish : c.wish_of-wish.result ≡ wish_of head.fields = search rules in
     refused_at c.args.login.now head c.in-Ok.path c.in-Some.early c.wish_of-wish.result c.refused.result path early wish c.refused.ensures
 

@@ -1,31 +1,33 @@
 -- The link that was taken is given back.
-use Rattle.std.proofs.Common.{refl, ◌∙◌, arith}
+use Rattle.std.proofs.Common.{true, false, refl, ◌∙◌, arith}
 use Rattle.mt_connection.proofs.Crashes.{all_of, unmoved}
-use Rattle.mt_server.specs.Rounds.{Round}
-use Rattle.mt_server.proofs.Doors.{all_back, one_out, passed_none, passed_one}
+use Rattle.mt_server.specs.Events.{Round}
+use Rattle.mt_server.proofs.Doors.{passed_again, passed_new, passed_none, passed_woke}
 use Rattle.mt_server.proofs.serve.visit.Goals as goal
 
-pub returns-in-None-clause-visit : goal.returns-in-None-clause-visit
-returns-in-None-clause-visit g c base h over =
-    let d = g.D.Disk in
-    let links = passed_none _ _ _ _ _ _ _ _ c.in-None.ensures.failed c.next.ensures.back in
-    (h, (refl, links, c.in-None.ensures.failed.2), (λ is_open. over), all_of h, (λ knows. unmoved d.seen d.may_leave d.moment d.left_since c.args.disk.now c.args.engine.now base h (g.met.D.Disk.only_now c.args.disk.now) c.requires.stands c.requires.is_open over knows))
-
-pub returns-in-None-clause-counts : goal.returns-in-None-clause-counts
-returns-in-None-clause-counts g c = (c.in-None.ensures.failed.1, c.in-None.ensures.failed.2)
-
-pub done-requires : goal.done-requires
-done-requires g c = one_out _ _ _ _ c.requires.door c.next.ensures.back c.in-Some.ensures.taken
-
-pub returns-in-Some-clause-visit : goal.returns-in-Some-clause-visit
-returns-in-Some-clause-visit g c base h over =
+pub returns-in-New-clause-visit : goal.returns-in-New-clause-visit
+returns-in-New-clause-visit g c base h over =
     let x = c.serve_link-given.ensures.served base h over in
-    let round : Round g.row.W-Link.Denot = record { taken = c.in-Some.link; given = c.serve_link-given.result.0; end = c.serve_link-given.result.1; named = x.1 } in
-    let links = passed_one _ _ _ _ _ _ _ _ _ _ _ _ round c.in-Some.ensures.link c.in-Some.ensures.taken c.next.ensures.back c.next.ensures.later c.done.ensures.back c.done.ensures.stays in
-    (x.0, (round, refl, (x.2, c.serve_link-given.ensures.stays), links, x.3), x.4, x.5, x.6)
+    let d = c.done-over.ensures in
+    let links = passed_new _ _ _ _ _ _ _ _ _ _ _ _ _ _ _ _ _ c.in-New.link c.serve_link-given.result.0 c.done-over.result c.serve_link-given.result.1 x.1 c.args.fresh c.in-New.ensures.came c.next.ensures.back c.next.ensures.over d.whole d.over d.back d.stays in
+    (x.0, (record { taken = c.in-New.link; given = c.serve_link-given.result.0; first = true; over = c.done-over.result; end = c.serve_link-given.result.1; named = x.1 }, refl, refl, refl, (x.2, c.serve_link-given.ensures.stays), links, x.3), x.4, x.5, x.6)
 
-pub returns-in-Some-clause-counts : goal.returns-in-Some-clause-counts
-returns-in-Some-clause-counts g c = (c.done.ensures.stays.1 ∙ c.in-Some.ensures.taken, omega (arith, c.next.ensures.later, c.done.ensures.stays.2))
+pub returns-in-Again-clause-visit : goal.returns-in-Again-clause-visit
+returns-in-Again-clause-visit g c base h over =
+    let x = c.serve_link-given-in-Again.ensures.served base h over in
+    let d = c.done-over-in-Again.ensures in
+    let links = passed_again _ _ _ _ _ _ _ _ _ _ _ _ _ _ _ _ _ c.in-Again.link c.serve_link-given-in-Again.result.0 c.done-over-in-Again.result c.serve_link-given-in-Again.result.1 x.1 c.args.fresh c.in-Again.ensures.came c.next.ensures.back c.next.ensures.over d.over d.back d.stays in
+    (x.0, (record { taken = c.in-Again.link; given = c.serve_link-given-in-Again.result.0; first = false; over = c.done-over-in-Again.result; end = c.serve_link-given-in-Again.result.1; named = x.1 }, refl, refl, refl, (x.2, c.serve_link-given-in-Again.ensures.stays), links, x.3), x.4, x.5, x.6)
 
-pub returns-in-Some-clause-door : goal.returns-in-Some-clause-door
-returns-in-Some-clause-door g c = all_back _ _ _ _ _ (one_out _ _ _ _ c.requires.door c.next.ensures.back c.in-Some.ensures.taken) c.done.ensures.back c.done.ensures.stays.1
+pub returns-in-Woken-clause-visit : goal.returns-in-Woken-clause-visit
+returns-in-Woken-clause-visit g c base h over =
+    let d = g.D.Disk in
+    let links = passed_woke _ _ _ _ _ _ _ _ _ _ _ _ c.args.fresh c.in-Woken.ensures.came c.next.ensures.back c.next.ensures.over in
+    (h, (refl, links), (λ is_open. over), all_of h, (λ knows. unmoved d.seen d.may_leave d.moment d.left_since c.args.disk.now c.args.engine.now base h (g.met.D.Disk.only_now c.args.disk.now) c.requires.stands c.requires.is_open over knows))
+
+pub returns-in-Failed-clause-visit : goal.returns-in-Failed-clause-visit
+returns-in-Failed-clause-visit g c base h over =
+    let d = g.D.Disk in
+    let came = c.in-Failed.ensures.came in
+    let links = passed_none _ _ _ _ _ _ _ _ _ _ _ _ c.args.fresh came c.next.ensures.back c.next.ensures.over in
+    (h, (refl, links, came.4), (λ is_open. over), all_of h, (λ knows. unmoved d.seen d.may_leave d.moment d.left_since c.args.disk.now c.args.engine.now base h (g.met.D.Disk.only_now c.args.disk.now) c.requires.stands c.requires.is_open over knows))

@@ -6,7 +6,7 @@ use Rattle.mt_log.specs.LogImage.{SameLog}
 use Rattle.mt_connection.proofs.Crashes.{between_first}
 use Rattle.mt_server.proofs.Connecting.{size_told}
 use Rattle.mt_server.proofs.Opened.{crash_from_entry, crash_of_opening, earlier_run, kept_size, over_opened, same_history, serves_opened, sized_unopened, some_files, unserved_run}
-use Rattle.mt_server.specs.Rounds.{link_side}
+use Rattle.mt_server.specs.Events.{link_side}
 use Rattle.mt_server.proofs.Serves.{not_begun, said_why, unopened_serve}
 use Rattle.mt_server.proofs.Sessions.{run_here}
 use Rattle.mt_server.proofs.Settling.{ready_refused, ready_session, ready_unopened}

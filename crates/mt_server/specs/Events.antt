@@ -1,0 +1,184 @@
+-- Many connections: the turns of their links, one after another, each of which is taken from a door and given back to it.
+use Rattle.std.specs.Prelude.{◌≡◌, ℕ, ◌+◌, ◌<◌, Bool, if◌then◌else◌, true, false, List, [], ◌∷◌, ◌++◌, length, map, Option, Some, None, is_some, option_map}
+use Rattle.std.specs.List.{list_any}
+use Rattle.mt_base.specs.Counts.{Rose, NeverFell}
+use Rattle.mt_disk.specs.Files.{Files}
+use Rattle.mt_edge.specs.Doors.{as_count}
+use Rattle.mt_engine.specs.History.{Bytes, History}
+use Rattle.mt_log.specs.LogImage.{log_size, payloads_of}
+use Rattle.mt_connection.specs.Sides.{LinkSide, Sides, Tasks, no_tasks}
+use Rattle.mt_connection.specs.Transcript.{Setting}
+use Rattle.mt_connection.specs.declared.end.ConnectionEnd.{ConnectionEnd}
+use Rattle.mt_connection.specs.declared.end.ConnectionEnd.TheVariants as ended
+use Rattle.mt_server.specs.declared.status.ServeEnd.{ServeEnd}
+use Rattle.mt_server.specs.declared.status.ServeEnd.TheVariants as serving
+
+-- what a connection leaves to the next one: the account, and the counts that are no link's
+pub record AccountSide : Type 0 where
+  -- the commands behind the base
+  pub history : History
+  -- the bytes of the log, where the disk tells what it holds; else 0
+  pub used : ℕ
+  pub disk_faults : ℕ
+  pub tasks : Tasks
+
+abbrev pub account_side : History → ℕ → ℕ → AccountSide
+account_side history used disk_faults = record { history = history; used = used; disk_faults = disk_faults; tasks = no_tasks }
+
+abbrev pub link_side : (left got : Option Bytes) (read_faults write_faults : ℕ) → LinkSide
+link_side left got read_faults write_faults = record { left = left; got = got; read_faults = read_faults; write_faults = write_faults }
+
+-- a link before an account
+abbrev pub joined : LinkSide → AccountSide → Sides
+joined link account = record {
+  left = link.left;
+  got = link.got;
+  history = account.history;
+  used = account.used;
+  read_faults = link.read_faults;
+  write_faults = link.write_faults;
+  disk_faults = account.disk_faults;
+  tasks = account.tasks;
+}
+
+-- the bytes of the log in these files, its closed gate among them, where the disk tells them
+abbrev pub size_of : Option Files → ℕ
+size_of None = 0
+size_of (Some files) = log_size (payloads_of files)
+
+-- One turn of a link: as it was taken and as it was given back; whether this was its first turn, and whether it is over; how the turn
+-- ended, and the history of which its replies have told. A link that is not over may have another turn.
+pub record Round (L : Type 0) : Type 0 where
+  pub taken : L
+  pub given : L
+  pub first : Bool
+  pub over : Bool
+  pub end : ConnectionEnd
+  pub named : History
+
+-- what came at the door
+pub data Event (L : Type 0) : Type 0 where
+  -- a link, which had its turn
+  Had : (turn : Round L) → Event L
+  -- no link
+  Woke : Event L
+
+-- what ends a serve at once
+abbrev pub end_breaks : ConnectionEnd → Option ServeEnd
+end_breaks ended.Disk = Some serving.Disk
+end_breaks ended.Memory = Some serving.Memory
+end_breaks _ = None
+
+module _ {L : Type 0} where
+  abbrev pub taken_of : Round L → L
+  taken_of x = x.taken
+
+  abbrev pub given_of : Round L → L
+  given_of x = x.given
+
+  -- how an event ends a serve, if it does
+  abbrev pub broken : Event L → Option ServeEnd
+  broken (Had x) = end_breaks x.end
+  broken Woke = None
+
+  abbrev pub fatal : Event L → Bool
+  fatal e = is_some (broken e)
+
+  -- no event is fatal
+  abbrev pub GoesOn : List (Event L) → Type 0
+  GoesOn events = list_any fatal events ≡ false
+
+  -- These events lead from one state to another: each turn does `Did`, and what follows it, or a waking, does `Then`. None follows a
+  -- fatal one.
+  abbrev pub Events : {A : Type 0} → (Did : Round L → A → A → Type 0) → (Then : Event L → A → A → Type 0) → A → List (Event L) → A → Type 0
+  Events Did Then old [] new = new ≡ old
+  Events {A} Did Then old (Had x ∷ es) new =
+      (served : A) × (rested : A) × Did x old served × Then (Had x) served rested × (fatal (Had x) ≡ true → es ≡ []) × Events Did Then rested es new
+  Events {A} Did Then old (Woke ∷ es) new = (rested : A) × Then Woke old rested × Events Did Then rested es new
+
+  -- one connection after another, whole
+  abbrev pub Rounds : {A : Type 0} → (Did : Round L → A → A → Type 0) → (Then : Event L → A → A → Type 0) → A → List (Round L) → A → Type 0
+  Rounds Did Then old [] new = new ≡ old
+  Rounds {A} Did Then old (x ∷ xs) new =
+      (served : A) × (rested : A) × Did x old served × Then (Had x) served rested × (fatal (Had x) ≡ true → xs ≡ []) × Rounds Did Then rested xs new
+
+  -- nothing follows an event
+  abbrev pub NothingFollows : Event L → AccountSide → AccountSide → Type 0
+  NothingFollows e served rested = rested ≡ served
+
+  -- the turns
+  abbrev pub turns_in : List (Event L) → List (Round L)
+  turns_in [] = []
+  turns_in (Had x ∷ es) = x ∷ turns_in es
+  turns_in (Woke ∷ es) = turns_in es
+
+  -- each link had one turn, which is its whole connection
+  abbrev pub AreWhole : List (Event L) → Type 0
+  AreWhole [] = Unit {0}
+  AreWhole (Had x ∷ es) = (x.first ≡ true) × (x.over ≡ true) × AreWhole es
+  AreWhole (Woke ∷ es) = ⊥
+
+  -- how many links were taken in these turns, and how many are over
+  abbrev pub firsts : List (Round L) → ℕ
+  firsts [] = 0
+  firsts (x ∷ xs) = as_count x.first + firsts xs
+
+  abbrev pub lasts : List (Round L) → ℕ
+  lasts [] = 0
+  lasts (x ∷ xs) = as_count x.over + lasts xs
+
+  -- the links of these turns that are over, as they were given back
+  abbrev pub over_in : List (Round L) → List L
+  over_in [] = []
+  over_in (x ∷ xs) = if x.over then x.given ∷ over_in xs else over_in xs
+
+  -- this holds of what each of these turns has told of
+  abbrev pub EachNamed : (History → Type 0) → List (Round L) → Type 0
+  EachNamed P [] = Unit {0}
+  EachNamed P (x ∷ xs) = P x.named × EachNamed P xs
+
+-- how a link is read from and written to
+abbrev pub side_of : {L : Type 0} → (left got : L → Option Bytes) (read_faults write_faults : L → ℕ) → L → LinkSide
+side_of left got read_faults write_faults link = record { left = left link; got = got link; read_faults = read_faults link; write_faults = write_faults link }
+
+-- the same setting on this link
+abbrev pub on_link : Setting → LinkSide → Setting
+on_link s link = record s { hears = is_some link.left }
+
+-- a door at one moment: the links that wait and those that were given back for good, where it tells them, and its counts
+pub record DoorSide (L : Type 0) : Type 0 where
+  pub waiting : Option (List L)
+  pub given_back : Option (List L)
+  pub taken : ℕ
+  pub over : ℕ
+  pub faults : ℕ
+
+abbrev pub door_side : {L : Type 0} → (waiting given_back : Option (List L)) (taken over faults : ℕ) → DoorSide L
+door_side waiting given_back taken over faults = record { waiting = waiting; given_back = given_back; taken = taken; over = over; faults = faults }
+
+module _ {L : Type 0} where
+  -- The links of these events were taken from the door in turn, and each that is over was given back. Where the door tells the links
+  -- that wait, each had one turn.
+  pub record Passed (old : DoorSide L) (events : List (Event L)) (new : DoorSide L) : Type 0 where
+    pub whole : is_some old.waiting ≡ true → AreWhole events
+    pub taken : old.waiting ≡ option_map (λ rest. map taken_of (turns_in events) ++ rest) new.waiting
+    pub back : new.given_back ≡ option_map (λ links. links ++ over_in (turns_in events)) old.given_back
+    pub count : new.taken ≡ old.taken + firsts (turns_in events)
+    pub over : new.over ≡ old.over + lasts (turns_in events)
+    pub faults : NeverFell old.faults new.faults
+
+  -- the last event ended the serve so, and none before it was fatal
+  abbrev pub EndsBy : ServeEnd → List (Event L) → Type 0
+  EndsBy end events = (front : List (Event L)) × (last : Event L) × (events ≡ front ++ last ∷ []) × (broken last ≡ Some end) × GoesOn front
+
+  -- so many links were taken, and all are over
+  abbrev pub AllServed : ℕ → List (Event L) → Type 0
+  AllServed wanted events = GoesOn events × (firsts (turns_in events) ≡ wanted) × (lasts (turns_in events) ≡ wanted)
+
+  -- How events end a serve of so many links: all were served; the door failed before; more events came than are counted; or the last
+  -- one broke.
+  abbrev pub IsEnd : ℕ → ServeEnd → List (Event L) → DoorSide L → DoorSide L → Type 0
+  IsEnd wanted serving.Served events old new = AllServed wanted events
+  IsEnd wanted serving.NoLink events old new = GoesOn events × (firsts (turns_in events) < wanted) × Rose old.faults new.faults
+  IsEnd wanted serving.Spent events old new = GoesOn events × (length events ≡ 18446744073709551615)
+  IsEnd wanted end events old new = EndsBy end events
