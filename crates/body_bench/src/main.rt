@@ -11,33 +11,16 @@ ghost use Rattle.mt_log.specs.LogImage.{Fit};
 mod outcome;
 mod work;
 
-use mt_adapters::{FileDisk, StdSink, StdSource};
+use mt_adapters::{FileDisk, StdSink, StdSource, words_of};
 use mt_disk::Disk;
 use mt_log::Log;
 use outcome::Fault;
 use std::alloc::Global;
-use std::env;
-use std::io::ErrorKind;
 use std::process::ExitCode;
 use work::{send_whole, store_whole};
 
 /// The limit of the log, in bytes: more than any measurement writes.
 const LIMIT: u64 = 1 << 40;
-
-// The words behind the program's own name.
-fn words_of(rt: &HostRuntime) -> Result<Vec<String>, Fault> {
-    let mut words = Vec::new(rt.alloc());
-    match env::args(rt) {
-        Ok(args) => {
-            for word in args.skip(1) {
-                words.push(word)?;
-            }
-            Ok(words)
-        }
-        Err(e) if e.kind() == ErrorKind::InvalidData => Err(Fault::Usage),
-        Err(_) => Err(Fault::Memory),
-    }
-}
 
 // Stores standard input, and sends it to standard output where that is asked for.
 fn work_on<D: Disk>(alloc: Global, rt: HostRuntime, disk: &mut D, sends: bool) -> Result<(), Fault>
@@ -64,7 +47,7 @@ fn work_on<D: Disk>(alloc: Global, rt: HostRuntime, disk: &mut D, sends: bool) -
 // Does what the words ask for.
 fn run(rt: HostRuntime) -> Result<(), Fault> {
     let alloc = rt.alloc();
-    let words = words_of(&rt)?;
+    let words = words_of(&rt, alloc)?;
     let [word, folder] = words.as_slice() else {
         return Err(Fault::Usage);
     };

@@ -1,6 +1,6 @@
 //! The calls of `mt_disk`.
 use crate::logs;
-use crate::untold::Untold;
+use mt_untold::Untold;
 use mt_disk::{Disk, FileNo};
 use mt_log::Log;
 use mt_rows::{Row, Stop, put_escaped};

@@ -2,7 +2,7 @@
 ghost use Rattle.std.specs.Prelude.{◌≡◌, ◌≤◌, false};
 
 use crate::disks::{put_bytes, zeros};
-use crate::untold::Untold;
+use mt_untold::Untold;
 use mt_log::{AppendError, Log, OpenError, Run};
 use mt_rows::{Row, Stop};
 use std::alloc::{AllocError, Global};

@@ -1,6 +1,6 @@
 //! `disk_rows`: calls of a disk in memory and of the log over it, row by row. Its stored run is their table of cases.
 //!
-//! - `state`: the disk and the log that rows speak of. `untold`: a disk of which rows may ask anything.
+//! - `state`: the disk, of which rows may ask anything, and the log that they speak of.
 //! - `disks`, `logs`: the calls of `mt_disk` and of `mt_log`. `stops`: sessions in which a call of the disk fails.
 #![tactic(auto)]
 
@@ -8,7 +8,6 @@ mod disks;
 mod logs;
 mod state;
 mod stops;
-mod untold;
 
 use mt_rows::print_table;
 use state::Disks;

@@ -2,11 +2,10 @@
 use crate::disks::{self, put_bytes};
 use crate::logs::put_refusal;
 use crate::stops::{crashed, put_stop};
-use crate::untold::Untold;
 use mt_disk::{FileNo, Room};
 use mt_log::Log;
 use mt_rows::{Row, Rows, Stop};
-use mt_untold::picks_of;
+use mt_untold::{Untold, picks_of};
 use std::alloc::{AllocError, Global};
 
 /// The room of a disk where no row names one.
@@ -56,7 +55,7 @@ impl Disks {
             bytes_at(alloc, row, 3)?,
         ];
         let failing = row.numbers(alloc, 4)?;
-        self.disk = Some(Untold::new(alloc, &self.files, self.room, &failing)?);
+        self.disk = Some(Untold::of(alloc, &self.files, self.room, &failing)?);
         self.log = None;
         Ok(())
     }
@@ -68,7 +67,7 @@ impl Disks {
         let Some(disk) = self.disk.take() else {
             return Err(Stop::NoSuchRow);
         };
-        self.disk = crashed(disk, &picks)?;
+        self.disk = crashed(alloc, disk, &picks)?;
         match &self.disk {
             Some(left) => Ok(put_files(out, left)?),
             None => Ok(out.push_str("NotAnImage")?),
@@ -96,7 +95,7 @@ impl Disks {
     // A session over a new disk of the same files, whose call of this number fails.
     fn stop(&self, alloc: Global, row: &Row, out: &mut String) -> Result<(), Stop> {
         let picks = picks_of(alloc, row, 2)?;
-        let disk = Untold::new(alloc, &self.files, self.room, &[row.number(1)?])?;
+        let disk = Untold::of(alloc, &self.files, self.room, &[row.number(1)?])?;
         put_stop(alloc, disk, &self.steps, &picks, out)
     }
 

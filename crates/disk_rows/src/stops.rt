@@ -1,7 +1,7 @@
 //! Sessions over a log in which a call of the disk fails, and what a crash leaves of them.
 use crate::disks::put_bytes;
 use crate::logs::{append, put_payloads, put_refusal, run};
-use crate::untold::Untold;
+use mt_untold::Untold;
 use mt_disk::{CrashError, FileNo, Pick};
 use mt_log::Log;
 use mt_rows::{Row, Stop};
@@ -61,15 +61,15 @@ pub fn put_stop(
     out: &mut String,
 ) -> Result<(), Stop> {
     let disk = put_session(alloc, disk, steps, out)?;
-    match crashed(disk, picks)? {
+    match crashed(alloc, disk, picks)? {
         Some(left) => put_left(alloc, left, out),
         None => Ok(out.push_str("; no image")?),
     }
 }
 
 /// What a crash leaves, where it is an image.
-pub fn crashed(disk: Untold, picks: &[Pick]) -> Result<Option<Untold>, Stop> {
-    match disk.crash(picks) {
+pub fn crashed(alloc: Global, disk: Untold, picks: &[Pick]) -> Result<Option<Untold>, Stop> {
+    match disk.crash(alloc, picks) {
         Ok(left) => Ok(Some(left)),
         Err(CrashError::NotAnImage) => Ok(None),
         Err(CrashError::Memory) => Err(Stop::Memory),

@@ -13,34 +13,17 @@ mod outcome;
 mod words;
 mod work;
 
-use mt_adapters::FileDisk;
+use mt_adapters::{FileDisk, words_of};
 use mt_disk::Disk;
 use mt_log::Log;
 use outcome::{Done, Fault};
 use std::alloc::{AllocError, Global};
-use std::env;
-use std::io::ErrorKind;
 use std::process::ExitCode;
 use words::{Command, Load, Work};
 use work::{add_each, add_run, digests, payload_of};
 
 /// The limit of the log, in bytes: more than any measurement writes.
 const LIMIT: u64 = 1 << 40;
-
-// The words behind the program's own name.
-fn words_of(rt: &HostRuntime) -> Result<Vec<String>, Fault> {
-    let mut words = Vec::new(rt.alloc());
-    match env::args(rt) {
-        Ok(args) => {
-            for word in args.skip(1) {
-                words.push(word)?;
-            }
-            Ok(words)
-        }
-        Err(e) if e.kind() == ErrorKind::InvalidData => Err(Fault::Usage),
-        Err(_) => Err(Fault::Memory),
-    }
-}
 
 // Opens the log of a disk, and adds the records that are asked for.
 fn work_on<D: Disk>(alloc: Global, disk: &mut D, work: Work) -> Result<Done, Fault>
@@ -70,7 +53,7 @@ fn work_on<D: Disk>(alloc: Global, disk: &mut D, work: Work) -> Result<Done, Fau
 // Does what the words ask for.
 fn run(rt: HostRuntime) -> Result<Done, Fault> {
     let alloc = rt.alloc();
-    let words = words_of(&rt)?;
+    let words = words_of(&rt, alloc)?;
     match Command::read(&words) {
         Some(Command::Digest(Load { count, size })) => {
             let payload = payload_of(alloc, size)?;

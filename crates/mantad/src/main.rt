@@ -1,10 +1,9 @@
 //! `mantad`: the store over files, standard input and standard output, or over the connections to an address. It makes the objects and
 //! calls `mt_server`.
 //!
-//! - `tell`: what is said on standard error. `standard`: its number and those of the other streams.
+//! - `tell`: what is said on standard error.
 #![tactic(auto)]
 
-mod standard;
 mod tell;
 
 ghost use Rattle.std.specs.Prelude.{◌≡◌, ◌≤◌, ◌+◌, IfSome};
@@ -13,16 +12,13 @@ ghost use Rattle.mt_base.specs.declared.limits.TheConstants.{LAST_MOMENT};
 ghost use Rattle.mt_disk.specs.CrashModel.{IsAtRest};
 ghost use Rattle.mt_log.specs.LogImage.{Fit};
 
-use mt_adapters::{FileDisk, StdSink, StdSource, SystemClock, TcpDoor};
+use mt_adapters::{FileDisk, Standard, StdSink, StdSource, SystemClock, TcpDoor, words_of};
 use mt_disk::{Disk, MemDisk, Room};
 use mt_edge::{Clock, Door, FixedClock, NoDoor};
 use mt_server::mantad;
 use mt_settings::{Mode, Settings, SettingsError};
 use mt_spawn::NoSpawner;
-use standard::Standard;
 use std::alloc::{AllocError, Global};
-use std::env;
-use std::io::ErrorKind;
 use std::process::ExitCode;
 use tell::{tell_door, tell_status, tell_usage};
 
@@ -38,21 +34,6 @@ const NO_STORE: Room = Room {
     calls: 0,
     written: 0,
 };
-
-// The words behind the program's own name. There are none where one of them is no UTF-8, so that this is a wrong usage.
-fn words(rt: &HostRuntime, alloc: Global) -> Result<Vec<String>, AllocError> {
-    let mut words = Vec::new(alloc);
-    match env::args(rt) {
-        Ok(args) => {
-            for word in args.skip(1) {
-                words.push(word)?;
-            }
-            Ok(words)
-        }
-        Err(e) if e.kind() == ErrorKind::InvalidData => Ok(words),
-        Err(_) => Err(AllocError),
-    }
-}
 
 // Calls the store over these ends, and standard input and output.
 fn call<D: Disk, C: Clock, W: Door>(
@@ -140,7 +121,7 @@ fn call_on_files(rt: HostRuntime, words: &[String], settings: &Settings) -> Resu
 // Calls the store by its words.
 fn run(rt: HostRuntime) -> Result<u8, AllocError> {
     let alloc = rt.alloc();
-    let words = words(&rt, alloc)?;
+    let words = words_of(&rt, alloc)?;
     match Settings::read(alloc, &words) {
         Ok(settings) => call_on_files(rt, &words, &settings),
         Err(SettingsError::Usage(fault)) => {

@@ -5,29 +5,12 @@
 
 mod tell;
 
-use mt_adapters::{StdSink, StdSource};
-use mt_children::{FolderSpool, Standard};
+use mt_adapters::{Standard, StdSink, StdSource, words_of};
+use mt_children::FolderSpool;
 use mt_helper::{Status, helper};
 use std::alloc::{AllocError, Global};
-use std::env;
-use std::io::ErrorKind;
 use std::process::ExitCode;
 use tell::tell;
-
-// The words behind the program's own name. There are none where one of them is no UTF-8, so that this is a wrong usage.
-fn words(rt: &HostRuntime, alloc: Global) -> Result<Vec<String>, AllocError> {
-    let mut words = Vec::new(alloc);
-    match env::args(rt) {
-        Ok(args) => {
-            for word in args.skip(1) {
-                words.push(word)?;
-            }
-            Ok(words)
-        }
-        Err(e) if e.kind() == ErrorKind::InvalidData => Ok(words),
-        Err(_) => Err(AllocError),
-    }
-}
 
 // Calls the helper over these ends, and standard input and output.
 fn call(
@@ -44,7 +27,7 @@ fn call(
 // Calls the helper by its words, of which the first names the folder.
 fn run(rt: HostRuntime) -> Result<Status, AllocError> {
     let alloc = rt.alloc();
-    let words = words(&rt, alloc)?;
+    let words = words_of(&rt, alloc)?;
     let [folder, words @ ..] = words.as_slice() else {
         tell(&rt, &[], Status::Usage, None);
         return Ok(Status::Usage);

@@ -1,2 +1,3 @@
 mod Front
+mod Heads
 mod Kept

@@ -1,5 +1,5 @@
 -- What a device hands on through an adapter that counts its faults.
-use Rattle.std.specs.Prelude.{◌≡◌, ℕ, ◌+◌, min, List, take, Option, Result, Ok, Err, ⊤}
+use Rattle.std.specs.Prelude.{◌≡◌, ℕ, ◌+◌, min, Bool, true, false, List, take, Option, Result, Ok, Err, ⊤}
 use Rattle.std.specs.Io.KnownBytes.{Consumes, Appends, Keeps, IsAtEnd}
 use Rattle.mt_edge.specs.declared.next.Next.{Next}
 use Rattle.mt_edge.specs.declared.next.Next.TheVariants as came
@@ -40,29 +40,36 @@ pub record LinkState : Type 0 where
 abbrev pub first_link : LinkState
 first_link = record { read_faults = 0; write_faults = 0 }
 
--- the counts of a door: of links that it gave, of those that are over, and of calls that failed
+-- the counts of a door: of links that it gave, of those that are over, of those that it keeps, and of calls that failed
 pub record DoorState : Type 0 where
   pub taken : ℕ
   pub over : ℕ
+  pub kept : ℕ
   pub faults : ℕ
 
 -- a door that has given no link yet
 abbrev pub first_door : DoorState
-first_door = record { taken = 0; over = 0; faults = 0 }
+first_door = record { taken = 0; over = 0; kept = 0; faults = 0 }
 
--- a link of which no call has failed, or a call that failed
+-- a new link is one of which no call has failed
 abbrev pub IsFirst : Next LinkState → Type 0
 IsFirst (came.New link) = link ≡ first_link
-IsFirst (came.Again link) = ⊥
-IsFirst came.Woken = ⊥
+IsFirst (came.Again link) = ⊤
+IsFirst came.Woken = ⊤
 IsFirst came.Failed = ⊤
 
--- the counts after a call for a link: one that gave none has failed
-abbrev pub after_next : {L : Type 0} → DoorState → Next L → DoorState
-after_next d (came.New link) = record d { taken = d.taken + 1 }
-after_next d (came.Again link) = d
-after_next d came.Woken = d
-after_next d came.Failed = record d { faults = one_more d.faults }
+-- the counts before and after a call for a link: a new one was taken, or one is no longer kept, or the call has failed. A new link and
+-- a failure come only where a new link was asked for
+abbrev pub AfterNext : {L : Type 0} → Bool → DoorState → Next L → DoorState → Type 0
+AfterNext fresh d (came.New link) d' = (fresh ≡ true) × (d' ≡ record d { taken = d.taken + 1 })
+AfterNext fresh d (came.Again link) d' = d ≡ record d' { kept = d'.kept + 1 }
+AfterNext fresh d came.Woken d' = d' ≡ d
+AfterNext fresh d came.Failed d' = (fresh ≡ true) × (d' ≡ record d { faults = one_more d.faults })
+
+-- the counts after a link was given back: it is over, or kept
+abbrev pub after_done : DoorState → Bool → DoorState
+after_done d true = record d { over = d.over + 1 }
+after_done d false = record d { kept = d.kept + 1 }
 
 -- a clock of the system: the last moment that it gave, at first 0, and how often it was asked
 pub record SystemClockState : Type 0 where

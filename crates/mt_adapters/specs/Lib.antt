@@ -1,1 +1,4 @@
 pub mod Device
+pub mod Heads
+pub mod Turns
+pub mod Wires

@@ -152,7 +152,7 @@ fn line_len(bytes: &[u8]) -> usize
 }
 
 // Copies as much of the first line as there is and fits.
-fn copy_line(bytes: &[u8], into: &mut [u8]) -> usize
+pub(crate) fn copy_line(bytes: &[u8], into: &mut [u8]) -> usize
     ensures fits { result ≤ length into.new }
     ensures bound { result ≤ length bytes.now }
     ensures copied { take result into.new ≡ take result bytes.now }

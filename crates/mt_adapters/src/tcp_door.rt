@@ -1,34 +1,32 @@
 //! The clients that connect to an address.
-ghost use Rattle.std.specs.Prelude.{◌≡◌, IfOk};
-ghost use Rattle.mt_adapters.specs.Device.{first_link};
+ghost use Rattle.std.specs.Prelude.{◌≡◌, IfErr, IfOk};
+ghost use Rattle.mt_adapters.specs.Turns.{AfterTaking};
 
 use crate::limits::Limits;
+use crate::places::{Places, Served};
+use crate::readiness::now;
+use crate::set::Set;
 use crate::tcp_link::TcpLink;
+use crate::turn::Turn;
 use mt_edge::{Door, Next};
 use std::alloc::{AllocError, Global};
+use std::io;
 use std::io::ErrorKind;
 use std::marker::Model;
 use std::net::{Net, TcpListener, TcpStream};
-use std::rc::Rc;
-use std::time::{Clock, Duration};
-use std::{io, thread};
-
-/// How many links that fail before they are set up are passed over in one call.
-const PASSED_OVER: u32 = 64;
-
-/// How many milliseconds pass before the next of them, so that nothing spins where the system has no descriptor left.
-const PAUSE: u64 = 100;
 
 /// Connections to an address, which is bound at the first call of `next`: `HOST:PORT`, where the host is an IPv4 address, an IPv6
-/// address in brackets or a name. At port 0 the system picks one, and standard error says which. A link that fails in being set
-/// up is passed over, 64 in one call at most. It tells neither the links that wait nor those that were given back: each is
-/// ended in an orderly way and closed, and is over.
+/// address in brackets or a name. At port 0 the system picks one, and standard error says which. A link is given where a whole
+/// message of it has come, or nothing more of it will; behind its turn it is kept, if it has not ended. At most 512 links are
+/// open. It tells neither the links that wait nor those that were given back, which are ended in an orderly way and closed.
 #[derive(Drop)]
 pub struct TcpDoor<R> {
     rt: R,
     alloc: Global,
     address: String,
-    listener: Option<Rc<TcpListener>>,
+    listener: Option<TcpListener>,
+    set: Option<Set>,
+    places: Places,
     limits: Limits,
     taken: u64,
     over: u64,
@@ -42,7 +40,7 @@ impl<R> Model for TcpDoor<R> {
 
     ghost Value = { DoorState };
 
-    ghost view = { λ d. record { taken = d.taken; over = d.over; faults = d.faults } };
+    ghost view = { λ d. record { taken = d.taken; over = d.over; kept = d.places; faults = d.faults } };
 
     ghost invariant = { λ d. IsSome d.failure → 0 < d.faults };
 }
@@ -60,44 +58,40 @@ fn bind<R: Net<Listener = TcpListener, Stream = TcpStream> + Eprint>(
     Ok(listener)
 }
 
-// The link of the next client.
-fn accept(alloc: Global, listener: &Rc<TcpListener>, limits: Limits) -> io::Result<TcpLink>
-    ensures { IfOk result (λ link. link ≡ first_link) }
-{
-    let (stream, _) = listener.accept()?;
-    TcpLink::new(alloc, stream, listener.clone()?, limits)
-}
-
-// The first link that is set up. An error that may last is followed by a pause.
-fn first_set_up<R: Clock>(
-    rt: &R,
-    alloc: Global,
-    listener: &Rc<TcpListener>,
+// The first link that can be served, which is waited for; none after 2 ^ 64 changes.
+fn first_served(
+    set: &mut Set,
+    places: &mut Places,
+    fresh: bool,
     limits: Limits,
-) -> io::Result<TcpLink>
-    ensures { IfOk result (λ link. link ≡ first_link) }
+) -> io::Result<Option<Served>>
+    ensures taken { IfOk result (λ served. AfterTaking fresh places.old served places.new) }
+    ensures err { IfErr result (λ e. places.new ≡ places.old) }
 {
-    let mut last = io::Error::from(ErrorKind::ConnectionAborted);
-    for _ in 0..PASSED_OVER {
-        match accept(alloc, listener, limits) {
-            Ok(link) => return Ok(link),
-            Err(error) => {
-                if error.kind() != ErrorKind::ConnectionAborted {
-                    thread::sleep(rt, Duration::from_millis(PAUSE));
-                }
-                last = error;
-            }
+    for _ in 0..u64::MAX {
+        if places.has_to_look() {
+            set.look(places, fresh, limits)?;
+        }
+        if let Some(served) = places.take(fresh) {
+            return Ok(Some(served));
         }
     }
-    Err(last)
+    Ok(None)
 }
 
 impl<R> TcpDoor<R> {
     ghost use Rattle.std.specs.Prelude.{◌≡◌, ◌<◌, IfOk, IsSome};
-    ghost use Rattle.mt_adapters.specs.Device.{first_door, one_more};
+    ghost use Rattle.mt_edge.specs.declared.next.Next.{Next};
+    ghost use Rattle.std.specs.Prelude.{true};
+    ghost use Rattle.mt_adapters.specs.Device.{AfterNext, IsFirst, first_door, first_link, one_more};
 
-    /// A door of an address, which has given no link yet. It makes no call of the system.
-    pub fn new(alloc: Global, rt: R, address: &str) -> Result<TcpDoor<R>, AllocError>
+    // A door of an address, or else of a listener that is bound.
+    fn of(
+        alloc: Global,
+        rt: R,
+        address: &str,
+        listener: Option<TcpListener>,
+    ) -> Result<TcpDoor<R>, AllocError>
     where
         R: Drop,
         ensures { IfOk result (λ d. d ≡ first_door) }
@@ -106,7 +100,9 @@ impl<R> TcpDoor<R> {
             rt,
             alloc,
             address: String::from_str(alloc, address)?,
-            listener: None,
+            listener,
+            set: None,
+            places: Places::new(alloc)?,
             limits: Limits::usual(),
             taken: 0,
             over: 0,
@@ -115,27 +111,22 @@ impl<R> TcpDoor<R> {
         })
     }
 
+    /// A door of an address, which has given no link yet. It makes no call of the system.
+    pub fn new(alloc: Global, rt: R, address: &str) -> Result<TcpDoor<R>, AllocError>
+    where
+        R: Drop,
+        ensures { IfOk result (λ d. d ≡ first_door) }
+    {
+        TcpDoor::of(alloc, rt, address, None)
+    }
+
     /// A door of a listener that is bound. It makes no call of the system.
     pub fn over(alloc: Global, rt: R, listener: TcpListener) -> Result<TcpDoor<R>, AllocError>
     where
         R: Drop,
         ensures { IfOk result (λ d. d ≡ first_door) }
     {
-        let listener = match Rc::new(alloc, listener) {
-            Ok(listener) => listener,
-            Err(_) => return Err(AllocError),
-        };
-        Ok(TcpDoor {
-            rt,
-            alloc,
-            address: String::new(alloc),
-            listener: Some(listener),
-            limits: Limits::usual(),
-            taken: 0,
-            over: 0,
-            faults: 0,
-            failure: None,
-        })
+        TcpDoor::of(alloc, rt, "", Some(listener))
     }
 
     /// The same door, whose links wait so long.
@@ -171,33 +162,58 @@ impl<R> TcpDoor<R> {
         }
         Next::Failed
     }
+
+    // What is answered where no change can be waited for: a failure where a new link was asked for, or else a link that is kept,
+    // as one that was waited for too long.
+    fn stuck(&mut self, fresh: bool, error: io::Error) -> Next<TcpLink>
+        ensures after { AfterNext fresh self.old result self.new }
+        ensures first { IsFirst result }
+    {
+        if fresh {
+            return self.failed(error);
+        }
+        match self.places.take_any(now()) {
+            Some(link) => Next::Again(link),
+            None => Next::Woken,
+        }
+    }
+
+    // Counts a new link, and gives it.
+    fn first_given(&mut self, link: TcpLink) -> Next<TcpLink>
+        requires { link ≡ first_link }
+        ensures after { AfterNext true self.old result self.new }
+        ensures first { IsFirst result }
+    {
+        match self.taken.checked_add(1) {
+            Some(taken) => {
+                self.taken = taken;
+                Next::New(link)
+            }
+            None => self.failed(io::Error::from(ErrorKind::QuotaExceeded)),
+        }
+    }
 }
 
-impl<R: Net<Listener = TcpListener, Stream = TcpStream> + Clock + Eprint> TcpDoor<R> {
-    // The listener, which is bound where this is the first call.
-    fn bound(&mut self) -> io::Result<Rc<TcpListener>>
+impl<R: Net<Listener = TcpListener, Stream = TcpStream> + Eprint> TcpDoor<R> {
+    // The set of the listener, which is bound where this is the first call.
+    fn opened(&mut self) -> io::Result<Set>
         ensures { self.new ≡ self.old }
     {
-        if let Some(listener) = &self.listener {
-            return Ok(listener.clone()?);
+        if let Some(set) = self.set.take() {
+            return Ok(set);
         }
-        let listener = Rc::new(self.alloc, bind(&self.rt, self.address.as_str())?)?;
-        self.listener = Some(listener.clone()?);
-        Ok(listener)
-    }
-
-    fn open(&mut self) -> io::Result<TcpLink>
-        ensures link { IfOk result (λ link. link ≡ first_link) }
-        ensures same { self.new ≡ self.old }
-    {
-        let listener = self.bound()?;
-        first_set_up(&self.rt, self.alloc, &listener, self.limits)
+        let listener = match self.listener.take() {
+            Some(listener) => listener,
+            None => bind(&self.rt, self.address.as_str())?,
+        };
+        Set::open(self.alloc, &self.rt, listener)
     }
 }
 
-impl<R: Net<Listener = TcpListener, Stream = TcpStream> + Clock + Eprint> Door for TcpDoor<R> {
-    ghost use Rattle.std.specs.Prelude.{◌≡◌, ◌+◌, ◌<◌, None, true};
-    ghost use Rattle.mt_adapters.specs.Device.{IsFirst, after_next};
+impl<R: Net<Listener = TcpListener, Stream = TcpStream> + Eprint> Door for TcpDoor<R> {
+    ghost use Rattle.std.specs.Prelude.{◌≡◌, ◌+◌, ◌<◌, None, true, false};
+    ghost use Rattle.mt_edge.specs.declared.next.Next.{Next};
+    ghost use Rattle.mt_adapters.specs.Device.{AfterNext, IsFirst, after_done};
 
     type Link = TcpLink;
 
@@ -209,36 +225,60 @@ impl<R: Net<Listener = TcpListener, Stream = TcpStream> + Clock + Eprint> Door f
 
     ghost over = { λ d. d.over };
 
-    ghost kept = { λ d. 0 };
+    ghost kept = { λ d. d.kept };
 
     ghost door_faults = { λ d. d.faults };
 
-    // No link is kept, so a new one is asked for.
     fn next(&mut self, fresh: bool) -> Next<TcpLink>
-        requires back { self.old.over ≡ self.old.taken }
-        requires some { fresh ≡ true }
+        requires back { self.old.over + self.old.kept ≡ self.old.taken }
+        requires some { fresh ≡ false → 0 < self.old.kept }
         ensures first { IsFirst result }
-        ensures after { self.new ≡ after_next self.old result }
+        ensures after { AfterNext fresh self.old result self.new }
     {
-        let _ = fresh;
-        let Some(taken) = self.taken.checked_add(1) else {
+        if fresh && self.taken == u64::MAX {
             return self.failed(io::Error::from(ErrorKind::QuotaExceeded));
+        }
+        if !fresh {
+            self.places.forget_fresh();
+        }
+        let mut set = match self.opened() {
+            Ok(set) => set,
+            Err(error) => return self.stuck(fresh, error),
         };
-        match self.open() {
-            Ok(link) => {
-                self.taken = taken;
-                Next::New(link)
+        let served = first_served(&mut set, &mut self.places, fresh, self.limits);
+        let turn = Turn::new(self.places.has_queue() || fresh && set.has_client());
+        let number = set.number();
+        self.set = Some(set);
+        match served {
+            Ok(Some(Served::Fresh(wire))) => {
+                self.first_given(TcpLink::new(wire, turn, number, self.limits))
             }
-            Err(error) => self.failed(error),
+            Ok(Some(Served::Kept(link))) => Next::Again(link.again(turn)),
+            Ok(None) => Next::Woken,
+            Err(error) => self.stuck(fresh, error),
         }
     }
 
-    fn done(&mut self, link: TcpLink) -> bool
-        requires { self.old.over < self.old.taken }
-        ensures closed { result ≡ true }
-        ensures after { self.new ≡ record self.old { over = self.old.over + 1 } }
+    fn done(&mut self, mut link: TcpLink) -> bool
+        requires { self.old.over + self.old.kept < self.old.taken }
+        ensures after { self.new ≡ after_done self.old result }
     {
-        link.end(&self.rt);
+        if link.has_left_set() {
+            if let Some(set) = &self.set {
+                let _ = set.add(link.number());
+            }
+        }
+        let now = now();
+        if link.is_paused() {
+            if self.places.keep(link, now) {
+                return false;
+            }
+        } else {
+            self.places.close(link.into_wire(), now);
+            if let Some(set) = &mut self.set {
+                set.settle(&mut self.places, self.limits);
+            }
+        }
         self.over += 1;
         true
     }

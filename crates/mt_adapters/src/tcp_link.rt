@@ -1,18 +1,14 @@
 //! A connection of TCP.
-ghost use Rattle.std.specs.Prelude.{◌≡◌, ◌<◌, length, IfOk};
+ghost use Rattle.std.specs.Prelude.{◌≡◌, ◌<◌, length};
 
-use crate::counted::{Counted, write_retrying};
 use crate::limits::Limits;
-use crate::readiness::is_silent;
+use crate::readiness::Readiness;
+use crate::turn::{MESSAGES, Turn};
+use crate::wire::{Asked, Moved, Side, Wire};
+use libc::net::EPOLL_CTL_DEL;
 use mt_edge::{Both, ReadStep, Sink, Source, WriteStep};
-use std::alloc::Global;
-use std::io::BufReader;
 use std::marker::Model;
-use std::net::{Shutdown, TcpListener, TcpStream};
-use std::os::fd::AsRawFd;
-use std::rc::Rc;
-use std::time::Instant;
-use std::{io, time};
+use std::os::fd::RawFd;
 
 /// How an interim reply begins (RFC 9110, section 15.2). The message that it answers goes on.
 const INTERIM: &[u8] = b"HTTP/1.1 1";
@@ -20,8 +16,8 @@ const INTERIM: &[u8] = b"HTTP/1.1 1";
 /// How any reply begins.
 const REPLY: &[u8] = b"HTTP/";
 
-/// How often what comes behind the last message is read and dropped, 64 KiB each time.
-const LAST_READS: u32 = 1024;
+/// How often a call is made that has to wait. Before each further one the socket was ready, or a signal came.
+const TRIES: u32 = 1024;
 
 // Where a link stands, as far as its calls tell.
 #[derive(Clone, Copy, PartialEq, Eq)]
@@ -31,7 +27,7 @@ enum Stage {
     Within,
     // Within a message whose interim reply was written.
     Interim,
-    // It has ended because its client was silent.
+    // It has ended between two messages: the client has ended, or was silent.
     Over,
 }
 
@@ -50,14 +46,19 @@ impl Stage {
     }
 }
 
-/// A connection that a `TcpDoor` gave. It reads 64 KiB ahead, and a write is one call of the system. A read or a write within a
-/// message that takes too long is a counted fault. Between two messages it ends where its client is silent (`Limits`).
+/// A connection that a `TcpDoor` gave. It reads up to 64 KiB ahead, and a write is one call of the system. A read or a write
+/// within a message that takes too long is a counted fault (`Limits`). Between two messages it ends where no whole message has
+/// come, and after 16 messages of one turn: if its client hasn't ended, the door keeps it, and gives it again.
 #[derive(Drop)]
 pub struct TcpLink {
-    reader: Counted<BufReader<TcpStream>>,
+    wire: Wire,
+    read_faults: u64,
     write_faults: u64,
     stage: Stage,
-    door: Rc<TcpListener>,
+    turn: Turn,
+    // The set of descriptors that it stands in, and whether it still does.
+    set: RawFd,
+    is_in_set: bool,
     limits: Limits,
 }
 
@@ -66,78 +67,178 @@ impl Model for TcpLink {
 
     ghost Value = { LinkState };
 
-    ghost view = { λ l. record { read_faults = l.reader.faults; write_faults = l.write_faults } };
+    ghost view = { λ l. record { read_faults = l.read_faults; write_faults = l.write_faults } };
 }
 
 impl TcpLink {
-    ghost use Rattle.mt_adapters.specs.Device.{first_link};
+    ghost use Rattle.std.specs.Prelude.{None};
+    ghost use Rattle.mt_edge.specs.Stream.{IsWithinLine, Reads};
+    ghost use Rattle.mt_edge.specs.declared.source.ReadStep.{ReadStep};
+    ghost use Rattle.mt_adapters.specs.Device.{faults_after_read, first_link};
+    ghost use Rattle.mt_adapters.specs.declared.wire.Asked.{Asked};
 
-    // The link of a stream that came through a door.
-    pub(crate) fn new(
-        alloc: Global,
-        stream: TcpStream,
-        door: Rc<TcpListener>,
-        limits: Limits,
-    ) -> io::Result<TcpLink>
-        ensures { IfOk result (λ link. link ≡ first_link) }
+    // The link of a wire, in its first turn.
+    pub(crate) fn new(wire: Wire, turn: Turn, set: RawFd, limits: Limits) -> TcpLink
+        ensures { result ≡ first_link }
     {
-        stream.set_nodelay(true)?;
-        stream.set_read_timeout(Some(limits.message))?;
-        stream.set_write_timeout(Some(limits.message))?;
-        Ok(TcpLink {
-            reader: Counted::reading(alloc, stream)?,
+        TcpLink {
+            wire,
+            read_faults: 0,
             write_faults: 0,
             stage: Stage::Between,
-            door,
+            turn,
+            set,
+            is_in_set: true,
             limits,
-        })
+        }
     }
 
-    // Whether nothing comes from the client for so long.
-    fn is_silent(&self, most: time::Duration) -> bool {
-        let client = self.reader.device().get_ref().as_raw_fd();
-        is_silent(client, self.door.as_raw_fd(), self.limits.turn, most)
+    // The same link in a further turn.
+    pub(crate) fn again(mut self, turn: Turn) -> TcpLink
+        ensures { result ≡ self }
+    {
+        self.turn = turn;
+        self
     }
 
-    // Whether it has ended, which it does where its client is silent between two messages.
-    fn is_over(&mut self) -> bool
+    pub(crate) fn wire(&self) -> &Wire {
+        &self.wire
+    }
+
+    pub(crate) fn number(&self) -> RawFd {
+        self.wire.number()
+    }
+
+    // Reads ahead what has come, as a wire does, of which this and the next three calls are.
+    pub(crate) fn come(&mut self, closed: bool, now: u64) -> bool
         ensures { self.new ≡ self.old }
     {
-        let is_between = self.stage == Stage::Between && self.reader.device().buffer().is_empty();
-        if is_between && self.is_silent(self.limits.idle) {
+        self.wire.come(closed, now)
+    }
+
+    pub(crate) fn rest(&mut self, now: u64) -> bool
+        ensures { self.new ≡ self.old }
+    {
+        self.wire.rest(now)
+    }
+
+    pub(crate) fn be_late(&mut self, now: u64) -> bool
+        ensures { self.new ≡ self.old }
+    {
+        self.wire.be_late(now)
+    }
+
+    pub(crate) fn look(&mut self, now: u64, last: bool) -> bool
+        ensures { self.new ≡ self.old }
+    {
+        self.wire.look(now, last, self.limits)
+    }
+
+    pub(crate) fn into_wire(self) -> Wire {
+        self.wire
+    }
+
+    // Whether it waits for its next turn.
+    pub(crate) fn is_paused(&self) -> bool {
+        self.turn.paused && self.stage == Stage::Between
+    }
+
+    // Whether it has to be put into the set of descriptors again, which is done then.
+    pub(crate) fn has_left_set(&mut self) -> bool
+        ensures { self.new ≡ self.old }
+    {
+        let has_left = !self.is_in_set;
+        self.is_in_set = true;
+        has_left
+    }
+
+    // Whether nothing is to be read for now, between two messages: no whole message has come, or the turn is over, or the link.
+    fn is_at_end(&mut self) -> bool
+        ensures { self.new ≡ self.old }
+    {
+        if self.stage != Stage::Between {
+            return self.stage == Stage::Over;
+        }
+        if self.wire.late || self.wire.side != Side::Open && self.wire.ahead.is_empty() {
             self.stage = Stage::Over;
+            return true;
         }
-        self.stage == Stage::Over
+        if self.turn.messages >= MESSAGES || !self.wire.is_ready() {
+            self.turn.paused = true;
+            return true;
+        }
+        false
     }
 
-    // Notes that something of a message came, if it did.
-    fn note(&mut self, step: ReadStep)
+    // Notes that so much of a message came.
+    fn note(&mut self, count: usize)
         ensures { self.new ≡ self.old }
     {
-        if let ReadStep::Took(_) = step {
-            self.stage = Stage::Within;
+        if self.stage == Stage::Between {
+            self.turn.messages = self.turn.messages.saturating_add(1);
+        }
+        self.stage = Stage::Within;
+        self.turn.note(count);
+    }
+
+    // Leaves the set while it is written to, so that what its own client sends does not look like another's.
+    fn leave_set(&mut self)
+        ensures { self.new ≡ self.old }
+    {
+        if self.is_in_set {
+            os::epoll_ctl(self.set, EPOLL_CTL_DEL, self.wire.number(), 0, 0);
+            self.is_in_set = false;
         }
     }
 
-    // Reads and drops what the client still sends, until it ends, is silent, or the time is over.
-    fn drain<C: time::Clock>(&mut self, clock: &C) -> io::Result<()> {
-        let began = Instant::now(clock)?;
-        for _ in 0..LAST_READS {
-            let left = self.limits.end.saturating_sub(began.elapsed(clock)?);
-            if left.is_zero() || self.is_silent(left) || self.reader.skip()? == 0 {
-                break;
+    // Waits until a call would not wait. Whether that was in time.
+    fn wait(&mut self, readiness: Readiness) -> bool
+        ensures { self.new ≡ self.old }
+    {
+        if readiness == Readiness::ToWrite {
+            self.leave_set();
+        }
+        !self.wire.late
+            && self
+                .turn
+                .wait(self.wire.number(), readiness, self.set, self.limits)
+    }
+
+    // Reads, and waits for it within a message.
+    fn step(&mut self, into: &mut [u8], asked: Asked) -> ReadStep
+        requires { 0 < length into.old }
+        ensures reads { Reads None self.old.read_faults into.new result None self.new.read_faults }
+        ensures line { asked ≡ Asked.Line → IsWithinLine result into.new }
+        ensures after { self.new ≡ record self.old { read_faults = faults_after_read self.old.read_faults result } }
+    {
+        if self.is_at_end() {
+            return ReadStep::End;
+        }
+        for _ in 0..TRIES {
+            match self.wire.read(into, asked) {
+                Moved::Bytes(0) => {}
+                Moved::Bytes(count) => {
+                    self.note(count);
+                    return ReadStep::Took(count);
+                }
+                Moved::Waits => {
+                    if !self.wait(Readiness::ToRead) {
+                        break;
+                    }
+                }
+                Moved::Ended => return ReadStep::End,
+                Moved::Failed => break,
             }
         }
-        Ok(())
+        self.read_fault()
     }
 
-    // Ends it in an orderly way. If it were closed while bytes of the client are unread, the system would reset it, and the
-    // client could lose the reply that was just written.
-    pub(crate) fn end<C: time::Clock>(mut self, clock: &C) {
-        let stream = self.reader.device().get_ref();
-        if self.stage != Stage::Over && stream.shutdown(Shutdown::Write).is_ok() {
-            let _ = self.drain(clock);
-        }
+    fn read_fault(&mut self) -> ReadStep
+        ensures result { result ≡ ReadStep.Failed }
+        ensures counted { self.new ≡ record self.old { read_faults = faults_after_read self.old.read_faults ReadStep.Failed } }
+    {
+        self.read_faults = self.read_faults.saturating_add(1);
+        ReadStep::Failed
     }
 }
 
@@ -158,12 +259,7 @@ impl Source for TcpLink {
         ensures reads { Reads None self.old.read_faults into.new result None self.new.read_faults }
         ensures after { self.new ≡ record self.old { read_faults = faults_after_read self.old.read_faults result } }
     {
-        if self.is_over() {
-            return ReadStep::End;
-        }
-        let step = self.reader.read(into);
-        self.note(step);
-        step
+        self.step(into, Asked::Piece)
     }
 
     fn read_line(&mut self, into: &mut [u8]) -> ReadStep
@@ -172,12 +268,7 @@ impl Source for TcpLink {
         ensures line { IsWithinLine result into.new }
         ensures after { self.new ≡ record self.old { read_faults = faults_after_read self.old.read_faults result } }
     {
-        if self.is_over() {
-            return ReadStep::End;
-        }
-        let step = self.reader.read_line(into);
-        self.note(step);
-        step
+        self.step(into, Asked::Line)
     }
 
     ghost source_same = { λ a. refl };
@@ -203,14 +294,23 @@ impl Sink for TcpLink {
         ensures after { self.new ≡ record self.old { write_faults = faults_after_write self.old.write_faults result } }
     {
         self.stage = self.stage.after_write(piece);
-        let mut stream = self.reader.device().get_ref();
-        match write_retrying(&mut stream, piece) {
-            Ok(count) if count > 0 => WriteStep::Took(count),
-            _ => {
-                self.write_faults = self.write_faults.saturating_add(1);
-                WriteStep::Failed
+        for _ in 0..TRIES {
+            match self.wire.write(piece) {
+                Moved::Bytes(0) => {}
+                Moved::Bytes(count) => {
+                    self.turn.note(count);
+                    return WriteStep::Took(count);
+                }
+                Moved::Waits => {
+                    if !self.wait(Readiness::ToWrite) {
+                        break;
+                    }
+                }
+                Moved::Ended | Moved::Failed => break,
             }
         }
+        self.write_faults = self.write_faults.saturating_add(1);
+        WriteStep::Failed
     }
 
     ghost sink_same = { λ a. refl };

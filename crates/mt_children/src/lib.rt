@@ -3,7 +3,7 @@
 //!
 //! - `sh_spawner`: the commands. `running`, `held`: those that live, and the one that has ended.
 //! - `task_folder`, `script`, `outcome`: what a command finds, how it is started, and what it left. `group`: how it is ended.
-//! - `folder_spool`: the files of helpers. `standard`: the numbers of standard input, output and error.
+//! - `folder_spool`: the files of helpers.
 #![tactic(auto)]
 
 mod folder_spool;
@@ -13,9 +13,7 @@ mod outcome;
 mod running;
 mod script;
 mod sh_spawner;
-mod standard;
 mod task_folder;
 
 pub use folder_spool::FolderSpool;
 pub use sh_spawner::ShSpawner;
-pub use standard::Standard;

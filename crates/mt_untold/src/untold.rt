@@ -63,6 +63,23 @@ impl Untold {
         })
     }
 
+    /// The disk of these files, of whose own calls, those that fit, the ones of these numbers fail.
+    pub fn of(
+        alloc: Global,
+        files: &[Vec<u8>; 3],
+        room: Room,
+        failing: &[u64],
+    ) -> Result<Untold, AllocError> {
+        let [head, one, two] = files;
+        Ok(Untold {
+            disk: MemDisk::new(alloc, head, one, two, room, failing)?,
+            room,
+            failing: Vec::new(alloc),
+            made: 0,
+            faults: 0,
+        })
+    }
+
     /// A disk at rest with what a read of another gives, and room for as much.
     pub fn over(alloc: Global, other: &Untold) -> Result<Untold, AllocError> {
         let head = other.file(FileNo::Head);
@@ -99,6 +116,11 @@ impl Untold {
     /// How many calls were made since then.
     pub fn made(&self) -> u64 {
         self.made
+    }
+
+    /// How many calls were made that fit.
+    pub fn calls(&self) -> u64 {
+        self.disk.calls()
     }
 
     /// What a read of a file gives.

@@ -10,32 +10,16 @@ mod rows;
 mod words;
 mod work;
 
+use mt_adapters::words_of;
 use outcome::Fault;
-use std::env;
-use std::io::ErrorKind;
 use std::process::ExitCode;
 use words::{Load, work_of};
 use work::Bench;
 
-// The words behind the program's own name.
-fn words_of(rt: &HostRuntime) -> Result<Vec<String>, Fault> {
-    let mut words = Vec::new(rt.alloc());
-    match env::args(rt) {
-        Ok(args) => {
-            for word in args.skip(1) {
-                words.push(word)?;
-            }
-            Ok(words)
-        }
-        Err(e) if e.kind() == ErrorKind::InvalidData => Err(Fault::Usage),
-        Err(_) => Err(Fault::Memory),
-    }
-}
-
 // Does what each line of standard input asks for, and prints what it found, so that a script sees where each work ends.
 fn run(rt: &HostRuntime) -> Result<(), Fault> {
     let alloc = rt.alloc();
-    let mut bench = Bench::new(alloc, Load::read(&words_of(rt)?)?)?;
+    let mut bench = Bench::new(alloc, Load::read(&words_of(rt, alloc)?)?)?;
     for line in rt.lines(alloc) {
         let Ok(line) = line else {
             return Err(Fault::Input);

@@ -8,13 +8,13 @@ use std::rt::Files;
 /// that nothing can be written to. So no file that is opened later, as one of a store, gets the number of a stream. They are
 /// given back when it is dropped.
 #[derive(Drop)]
-pub(crate) struct Standard {
+pub struct Standard {
     held: [Option<File>; 3],
 }
 
 impl Standard {
     /// Takes the numbers that are free.
-    pub(crate) fn hold<R: Files<File = File>>(rt: &R) -> io::Result<Standard> {
+    pub fn hold<R: Files<File = File>>(rt: &R) -> io::Result<Standard> {
         let mut held = [None, None, None];
         for place in 0..3 {
             let file = File::open(rt, "/dev/null")?;
