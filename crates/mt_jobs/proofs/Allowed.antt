@@ -1,11 +1,11 @@
 -- What a command that is allowed says of its job, and what is kept of a job that is found.
-use Rattle.std.proofs.Common.{◌≡◌, ℕ, ◌<◌, ◌^◌, Bool, true, false, cond, not, ◌||◌, List, [], ◌∷◌, Option, Some, None, refl, sym, ap, subst, ◌∙◌, zero, suc}
+use Rattle.std.proofs.Common.{◌≡◌, ℕ, Bool, true, false, cond, not, List, [], ◌∷◌, Option, Some, None, refl, sym, ap, subst, ◌∙◌, zero, suc}
 use Rattle.std.specs.Prelude.{All}
 use Rattle.std.specs.List.{slice_get}
 use Rattle.std.specs.List.Sorted.{IsStrictlySortedBy}
 use Rattle.std.specs.Option.{unwrap_or}
 use Rattle.std.specs.Ordering.{nat_cmp}
-use Rattle.std.proofs.lemmas.List.Elements.{All-head, All-nil, All-tail}
+use Rattle.std.proofs.lemmas.List.Elements.{All-head, All-tail}
 use Rattle.mt_types.specs.declared.document.InputLine.{InputLine}
 use Rattle.mt_types.specs.declared.job.Job.{Job}
 use Rattle.mt_types.specs.declared.refusal.Refusal.{Refusal}
@@ -75,12 +75,3 @@ module _ {B : Type 0} where
       ∙ plan_where number (jobs_in kept) is.rising
       ∙ ap plan_if at.job
       ∙ ap (λ b. cond b (Some (plan_of old.job)) None) runs
-
-  -- where all jobs are given up, what is kept is right
-  pub given_up : (kept : List (Kept B)) (plans : List (ℕ × Plan)) (running done : List ℕ) → kept ≡ [] → plans ≡ [] → running ≡ [] → done ≡ [] → IsJobs kept plans running done
-  given_up kept plans running done a b c d =
-      subst (λ l. IsJobs l plans running done) (sym a)
-      (subst (λ l. IsJobs {B = B} [] l running done) (sym b)
-      (subst (λ l. IsJobs {B = B} [] [] l done) (sym c)
-      (subst (λ l. IsJobs {B = B} [] [] [] l) (sym d)
-      (record { rising = none_rise; small = All-nil (λ k. k.job.number < 2 ^ 62); each = All-nil IsKept; plans_are = refl; running_are = refl; done_are = refl }))))

@@ -15,7 +15,7 @@ ghost use Rattle.mt_resolve.specs.Committing.{IsCommitting, committing_of};
 ghost use Rattle.mt_feeds.specs.Kept.{AreFeeds, IsKept};
 ghost use Rattle.mt_resolve.specs.Taking.{HasReady};
 
-use crate::jobs::{Jobs, find, give_up};
+use crate::jobs::{Jobs, find};
 use mt_feeds::{Kept, count_of};
 use mt_resolve::{Committing, resolve};
 use mt_sched::Sched;
@@ -180,13 +180,7 @@ impl<B: Duplicate> Jobs<B> {
         ) {
             Ok(()) => Ok(()),
             Err(error) => {
-                give_up(
-                    alloc,
-                    &mut self.jobs,
-                    &mut self.sched,
-                    &mut self.running,
-                    &mut self.done,
-                );
+                *self = Jobs::new(alloc);
                 Err(error)
             }
         }

@@ -10,7 +10,7 @@ ghost use Rattle.mt_sched.specs.PlanOfJob.{inputs_in, plan_of};
 ghost use Rattle.mt_sched.specs.PlanSteps.{ended_plan, grown, with_plan};
 ghost use Rattle.mt_feeds.specs.Kept.{IsKept};
 
-use crate::jobs::{Jobs, find, give_up};
+use crate::jobs::{Jobs, find};
 use mt_feeds::Kept;
 use mt_sched::Sched;
 use mt_tree::Tree;
@@ -168,13 +168,7 @@ impl<B: Duplicate> Jobs<B> {
         ) {
             Ok(()) => Ok(()),
             Err(error) => {
-                give_up(
-                    alloc,
-                    &mut self.jobs,
-                    &mut self.sched,
-                    &mut self.running,
-                    &mut self.done,
-                );
+                *self = Jobs::new(alloc);
                 Err(error)
             }
         }
@@ -193,13 +187,7 @@ impl<B: Duplicate> Jobs<B> {
         match end_kept(alloc, &mut self.jobs[place], &mut self.sched) {
             Ok(()) => Ok(()),
             Err(error) => {
-                give_up(
-                    alloc,
-                    &mut self.jobs,
-                    &mut self.sched,
-                    &mut self.running,
-                    &mut self.done,
-                );
+                *self = Jobs::new(alloc);
                 Err(error)
             }
         }

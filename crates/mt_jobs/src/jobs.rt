@@ -43,25 +43,6 @@ pub(crate) fn find<B>(jobs: &[Kept<B>], number: u64) -> Option<usize>
     }
 }
 
-/// Gives all jobs up, where memory was wanting in the midst of a change. Takes no memory.
-pub(crate) fn give_up<B: Drop>(
-    alloc: Global,
-    jobs: &mut Vec<Kept<B>>,
-    sched: &mut Sched,
-    running: &mut BTreeSet<u64>,
-    done: &mut BTreeSet<u64>,
-)
-    ensures jobs { jobs.new.items ≡ [] }
-    ensures sched { sched.new ≡ [] }
-    ensures running { running.new.keys ≡ [] }
-    ensures done { done.new.keys ≡ [] }
-{
-    jobs.clear();
-    *sched = Sched::new(alloc);
-    *running = BTreeSet::new(alloc);
-    *done = BTreeSet::new(alloc);
-}
-
 impl<B> Jobs<B> {
     ghost use Rattle.std.specs.Prelude.{◌≡◌, [], IfSome, length, option_copied, slice_get};
     ghost use Rattle.std.specs.Option.{option_map};

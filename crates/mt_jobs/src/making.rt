@@ -12,7 +12,7 @@ ghost use Rattle.mt_sched.specs.PlanOfJob.{kinds_of};
 ghost use Rattle.mt_sched.specs.PlanSteps.{first_plan};
 ghost use Rattle.mt_tree.specs.Answer.{answer};
 
-use crate::jobs::{Jobs, give_up};
+use crate::jobs::Jobs;
 use mt_feeds::Kept;
 use mt_resolve::{job_folder, job_stor};
 use mt_sched::Sched;
@@ -220,13 +220,7 @@ impl<B: Duplicate> Jobs<B> {
         ) {
             Ok(()) => Ok(()),
             Err(error) => {
-                give_up(
-                    alloc,
-                    &mut self.jobs,
-                    &mut self.sched,
-                    &mut self.running,
-                    &mut self.done,
-                );
+                *self = Jobs::new(alloc);
                 Err(error)
             }
         }

@@ -1,4 +1,4 @@
-use Rattle.std.proofs.Common.{◌≡◌, Some, None, not, sym, ap, refl, subst, ◌∙◌}
+use Rattle.std.proofs.Common.{Some, None, not, sym, ap, refl, subst, ◌∙◌}
 use Rattle.std.specs.List.{slice_get}
 use Rattle.std.specs.Prelude.{is_some}
 use Rattle.mt_model.specs.JobSteps.{add_inputs_refusal, with_lines}
@@ -9,7 +9,7 @@ use Rattle.mt_sched.specs.PlanSteps.{grown}
 use Rattle.mt_sched.proofs.Changes.{plan_lines}
 use Rattle.mt_feeds.specs.declared.kept.Kept.{Kept}
 use Rattle.mt_jobs.specs.Kept.{IsFound, jobs_in}
-use Rattle.mt_jobs.proofs.Allowed.{all_at, given_up, kept_at, lines_open, refusal_of}
+use Rattle.mt_jobs.proofs.Allowed.{all_at, kept_at, lines_open, refusal_of}
 use Rattle.mt_jobs.proofs.Changes.{at_job, jobs_changed, jobs_written}
 use Rattle.mt_jobs.proofs.Numbers.{found_job, found_none, with_job_is, with_no_job}
 use Rattle.mt_jobs.proofs.Posted.{KeepsRest, kept_posted, lines_rest}
@@ -37,10 +37,6 @@ invariant_of-self g c =
     jobs_changed (λ plan. grown plan 0 (inputs_in rows lines)) kept c.self.inside.sched c.add_all.new.sched c.self.inside.running.keys c.self.inside.done.keys c.in-Some.place old new c.self.invariant it.there
     (kept_posted old new (kept_at kept c.in-Some.place old c.self.invariant.each it.there) rest refl refl open_so_far.so_far)
     rest.number (ap (λ d. not (is_some d)) rest.done) (ap plan_of c.in-Ok.ensures.job ∙ plan_lines rows lines old.job sound) c.in-Ok.ensures.plans
-
-pub invariant_of-self-in-Err : goal.invariant_of-self-in-Err
-invariant_of-self-in-Err g c =
-    given_up c.give_up.new.jobs.items c.give_up.new.sched c.give_up.new.running.keys c.give_up.new.done.keys c.give_up.ensures.jobs c.give_up.ensures.sched c.give_up.ensures.running c.give_up.ensures.done
 
 pub returns-in-Ok : goal.returns-in-Ok
 returns-in-Ok g c = λ position moment.

@@ -2,7 +2,7 @@ use Rattle.std.proofs.Common.{◌≡◌, ◌+◌, Some, None, length, refl, sym,
 use Rattle.std.specs.List.{slice_get}
 use Rattle.mt_types.specs.declared.job.TraceEntry.{TraceEntry}
 use Rattle.mt_model.specs.Feed.{items_of}
-use Rattle.mt_model.specs.JobSteps.{commit, commit_refusal, with_entry}
+use Rattle.mt_model.specs.JobSteps.{commit_refusal, with_entry}
 use Rattle.mt_model.specs.Lawful.{LawfulJob}
 use Rattle.mt_model.specs.State.{job_at, with_job}
 use Rattle.mt_model.specs.Tasks.{is_running}
@@ -12,8 +12,7 @@ use Rattle.mt_sched.proofs.Changes.{plan_commit}
 use Rattle.mt_feeds.proofs.Entered.{ready_runs}
 use Rattle.mt_resolve.proofs.Ready.{is_committing, records_ready}
 use Rattle.mt_jobs.specs.Kept.{IsFound, jobs_in}
-use Rattle.mt_jobs.specs.Shown.{state_of}
-use Rattle.mt_jobs.proofs.Allowed.{all_at, given_up, kept_at, plan_here, refusal_of, there}
+use Rattle.mt_jobs.proofs.Allowed.{all_at, kept_at, plan_here, refusal_of, there}
 use Rattle.mt_jobs.proofs.Changes.{at_job, jobs_changed, jobs_written}
 use Rattle.mt_jobs.proofs.Numbers.{found_job, found_none, with_job_is}
 use Rattle.mt_jobs.proofs.Plans.{allowed_ready}
@@ -68,10 +67,6 @@ invariant_of-self g c =
     (ap (λ j. j.number) h.job) (ap is_running h.job)
     (ap plan_of h.job ∙ plan_commit old.job h.entry lawful.sound ∙ ap (λ (e : TraceEntry g.row.B.Denot). grown (committed_in (plan_of old.job) e.phase e.place) (e.phase + 1) (length (items_of h.entry.outcome))) h.entry_is)
     h.plans_are
-
-pub invariant_of-self-in-Err : goal.invariant_of-self-in-Err
-invariant_of-self-in-Err g c =
-    given_up c.give_up.new.jobs.items c.give_up.new.sched c.give_up.new.running.keys c.give_up.new.done.keys c.give_up.ensures.jobs c.give_up.ensures.sched c.give_up.ensures.running c.give_up.ensures.done
 
 pub returns-in-Ok : goal.returns-in-Ok
 returns-in-Ok g c =

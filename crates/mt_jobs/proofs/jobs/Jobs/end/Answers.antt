@@ -1,4 +1,4 @@
-use Rattle.std.proofs.Common.{◌≡◌, Some, None, sym, ap, subst, ◌∙◌}
+use Rattle.std.proofs.Common.{Some, None, sym, ap, subst, ◌∙◌}
 use Rattle.std.specs.List.{slice_get}
 use Rattle.mt_types.specs.WellMade.{IsDocument}
 use Rattle.mt_model.specs.JobSteps.{input_refusal, with_end}
@@ -8,7 +8,7 @@ use Rattle.mt_sched.specs.PlanOfJob.{plan_of}
 use Rattle.mt_sched.specs.PlanSteps.{ended_plan}
 use Rattle.mt_sched.proofs.Changes.{plan_end}
 use Rattle.mt_jobs.specs.Kept.{IsFound, jobs_in}
-use Rattle.mt_jobs.proofs.Allowed.{all_at, given_up, input_open, plan_here, refusal_of}
+use Rattle.mt_jobs.proofs.Allowed.{all_at, input_open, plan_here, refusal_of}
 use Rattle.mt_jobs.proofs.Changes.{at_job, jobs_changed, jobs_written}
 use Rattle.mt_jobs.proofs.Numbers.{found_job, found_none, with_job_is, with_no_job}
 use Rattle.mt_jobs.proofs.States.{end_is}
@@ -61,10 +61,6 @@ invariant_of-self g c =
     let it = found_job c.args.job kept c.in-Some.place old found c.index_mut.ensures.value in
     jobs_changed ended_plan kept c.self.inside.sched c.end_kept.new.sched c.self.inside.running.keys c.self.inside.done.keys c.in-Some.place old c.end_kept.new.kept c.self.invariant it.there c.in-Ok.ensures.kept
     (ap (λ j. j.number) c.in-Ok.ensures.job) (ap is_running c.in-Ok.ensures.job) (ap plan_of c.in-Ok.ensures.job ∙ plan_end old.job) c.in-Ok.ensures.plans
-
-pub invariant_of-self-in-Err : goal.invariant_of-self-in-Err
-invariant_of-self-in-Err g c =
-    given_up c.give_up.new.jobs.items c.give_up.new.sched c.give_up.new.running.keys c.give_up.new.done.keys c.give_up.ensures.jobs c.give_up.ensures.sched c.give_up.ensures.running c.give_up.ensures.done
 
 pub returns-in-Ok : goal.returns-in-Ok
 returns-in-Ok g c = λ position moment rows.

@@ -7,7 +7,6 @@ use Rattle.mt_model.specs.Rows.{at}
 use Rattle.mt_sched.specs.Kept.{IsAbove}
 use Rattle.mt_jobs.specs.Kept.{jobs_in}
 use Rattle.mt_jobs.proofs.Added.{above_plans, all_below, jobs_pushed, jobs_with_new, small, unused}
-use Rattle.mt_jobs.proofs.Allowed.{given_up}
 use Rattle.mt_jobs.proofs.States.{make_is}
 use Rattle.mt_jobs.proofs.jobs.Jobs.make.Goals as goal
 
@@ -40,10 +39,6 @@ invariant_of-self g c =
     let below : All (λ j. j.number < n) (jobs_in kept) = subst (All (λ j. j.number < n)) (sym c.self.view_is) (all_below c.args.position rows c.args.self.now c.requires.jobs c.requires.room) in
     jobs_pushed rows n c.args.moment c.args.document kept c.add_kept.new.jobs.items c.self.inside.sched c.add_kept.new.sched c.self.inside.running.keys c.add_kept.new.running.keys c.self.inside.done.keys c.in_ok-kept.kept
     c.self.invariant c.in_ok-kept.ensures.kept made (small c.args.position rows c.args.self.now c.requires.jobs c.requires.room) below c.in-Ok.ensures.jobs c.in-Ok.ensures.sched c.in-Ok.ensures.running
-
-pub invariant_of-self-in-Err : goal.invariant_of-self-in-Err
-invariant_of-self-in-Err g c =
-    given_up c.give_up.new.jobs.items c.give_up.new.sched c.give_up.new.running.keys c.give_up.new.done.keys c.give_up.ensures.jobs c.give_up.ensures.sched c.give_up.ensures.running c.give_up.ensures.done
 
 pub returns-in-Ok : goal.returns-in-Ok
 returns-in-Ok g c =
