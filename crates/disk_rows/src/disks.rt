@@ -1,9 +1,9 @@
 //! The calls of `mt_disk`.
 use crate::logs;
-use mt_untold::Untold;
 use mt_disk::{Disk, FileNo};
 use mt_log::Log;
 use mt_rows::{Row, Stop, put_escaped};
+use mt_untold::Untold;
 use std::alloc::{AllocError, Global};
 
 /// The most bytes that a row reads.

@@ -2,9 +2,9 @@
 ghost use Rattle.std.specs.Prelude.{◌≡◌, ◌≤◌, false};
 
 use crate::disks::{put_bytes, zeros};
-use mt_untold::Untold;
 use mt_log::{AppendError, Log, OpenError, Run};
 use mt_rows::{Row, Stop};
+use mt_untold::Untold;
 use std::alloc::{AllocError, Global};
 
 /// Payloads are shorter.

@@ -1,10 +1,10 @@
 //! Sessions over a log in which a call of the disk fails, and what a crash leaves of them.
 use crate::disks::put_bytes;
 use crate::logs::{append, put_payloads, put_refusal, run};
-use mt_untold::Untold;
 use mt_disk::{CrashError, FileNo, Pick};
 use mt_log::Log;
 use mt_rows::{Row, Stop};
+use mt_untold::Untold;
 use std::alloc::Global;
 
 /// How long a log may get in such a session.
