@@ -579,7 +579,7 @@ class Shown:
         """What is told of a task besides its failure."""
         if self.phases()[p].get("type", "map") == "reduce":
             return {"reducer": k}
-        return {"input": self.feed(p)[k]}
+        return {"input": self.feed(p)[k]} if k < len(self.feed(p)) else {}
 
     def errors(self):
         gone = [{"code": "ResourceNotFound", "input": it, "message": "no such object", "phase": 0} for it in self.missing]
@@ -664,7 +664,7 @@ class Shows:
 
     def closed(self, name, cancelled, moment):
         text = self.shown.status(moment, cancelled).encode() if name == "status" else self.shown.text(name)
-        row(f"closed {name} {int(cancelled)} {moment}", answered(text))
+        row(f"closed {name} {int(cancelled)} {moment}", f"{len(text)} {answered(text)}" if text else "0")
 
     def pieces(self, name, *sizes):
         for size in sizes:
@@ -719,6 +719,31 @@ def texts():
         shows.archive(name, name == "err", 1234567999, 100)
     shows.done(1234567999, False)
     shows.texts("status")
+    print("\n# Failed tasks of a second and a third map phase: each is named by the output that it read, in the order of commits, whichever task made it.")
+    shows.job(12288, 86400, '{"phases":[{"exec":"a"},{"exec":"b"},{"exec":"c"}]}')
+    for k in range(6):
+        shows.input(f"/l/stor/in{k}")
+    shows.good(0, 4, 20, "/l/stor/4a", "/l/stor/4 b")
+    shows.bad(1, 1, 21, 1, 1, b"second\n")
+    shows.good(0, 1, 22)
+    shows.bad(0, 5, 23, 5, 2, b"")
+    shows.good(0, 0, 24, '/l/public/"0"', "/l/stor/0b", "/l/stor/4a")
+    shows.good(1, 0, 25, "/l/stor/deep/x", "/l/stor/deep/y")
+    for k, q in ((4, 26), (2, 27), (3, 28)):
+        shows.bad(1, k, q, 1, 64 + k, b"task %d" % k)
+    shows.bad(2, 1, 29, 3, 0, b"")
+    shows.good(0, 2, 30, "/l/stor/2a")
+    shows.bad(1, 5, 31, 2, 0, b"\0")
+    shows.bad(2, 0, 32, 1, 130, b"")
+    shows.texts()
+    print("# One whose place nothing has is named by nothing.")
+    shows.bad(1, 6, 33, 1, 1, b"")
+    shows.bad(2, 2, 34, 1, 1, b"")
+    shows.texts("fail", "err")
+    for name in ("fail", "err"):
+        shows.pieces(name, 1, 64, 65536)
+        shows.closed(name, False, 86401)
+        shows.archive(name, True, 86401, 50)
     print("\n# A job that was cancelled, of which nothing ran.")
     shows.job(2 ** 62 - 4096, 253402300799, '{"phases":[{"exec":"x","type":"reduce"}]}')
     shows.input("/l/stor/a")
@@ -728,6 +753,15 @@ def texts():
     shows.texts()
     shows.pieces("in", 9, 10)
     shows.pieces("out", 1)
+    print("\n# Names of a part of a status, and of two parts and a byte; a missing line of some blocks of text.")
+    for size in (4096, 8193):
+        shows.job(0, 0, '{"name":"%s","phases":[{"exec":"x"}]}' % ("\\u0001" * 3 + "n" * (size - 3)))
+        shows.pieces("status", 4000)
+        shows.archive("status", False, 0, 65536)
+    shows.job(0, 0, '{"phases":[{"exec":"x"}]}')
+    shows.missing("\x01" + "m" * 4094 + '"' + "'" * 4096 + "z")
+    shows.texts("err")
+    shows.pieces("err", 3000)
     print("\n# Each cause of a failure.")
     shows.job(0, 951782400, '{"phases":[{"exec":"x"}]}')
     for k in FAILURES:

@@ -1,11 +1,13 @@
 //! Rows of `mt_jobtext`: a job that is made step by step, and its texts. The login is `l`.
 ghost use Rattle.std.specs.Prelude.{◌<◌, ◌≤◌, IfSome, IsTrue, length};
+ghost use Rattle.mt_feeds.specs.Kept.{AreFeeds};
 ghost use Rattle.mt_jobtext.specs.Pieces.{IsShowable};
 
 use mt_base::{Bytes, LAST_MOMENT, NUMBERS_END, Sequence, Text};
 use mt_edge::{ReadStep, Source};
+use mt_feeds::Kept;
 use mt_jobdoc::read;
-use mt_jobtext::{Lines, LiveText, closed_text, line_count, live_text, text_len};
+use mt_jobtext::{Lines, LiveText, closed_len, closed_text, line_count, live_text, text_len};
 use mt_path::Path;
 use mt_rows::{Row, Stop, put_escaped};
 use mt_types::{Body, InputLine, Item, Job, JobDocument, Outcome, TaskFailure, TraceEntry};
@@ -141,14 +143,16 @@ fn is_moment(done: Option<u64>) -> bool
 }
 
 // How many lines and bytes a text has, and the text.
-fn put_text(alloc: Global, job: &Job<Body>, row: &Row, out: &mut String) -> Result<bool, Stop> {
-    if !is_showable(job) {
+fn put_text(alloc: Global, kept: &Kept<Body>, row: &Row, out: &mut String) -> Result<bool, Stop>
+    requires { AreFeeds kept.now.job kept.now.feeds.items }
+{
+    if !is_showable(&kept.job) {
         return Err(Stop::NoSuchRow);
     }
     let kind = kind(row, 1)?;
-    let len = text_len(alloc, LOGIN, job, kind)?;
-    write!(out, "{} {len}", line_count(job, kind)?)?;
-    put_behind(live_text(alloc, LOGIN, job, kind)?.as_slice(), out)
+    let len = text_len(alloc, LOGIN, kept, kind)?;
+    write!(out, "{} {len}", line_count(kept, kind)?)?;
+    put_behind(live_text(alloc, LOGIN, kept, kind)?.as_slice(), out)
 }
 
 // Bytes behind a blank, if there are any.
@@ -160,35 +164,45 @@ fn put_behind(bytes: &[u8], out: &mut String) -> Result<bool, Stop> {
     Ok(true)
 }
 
-// A text as a job will leave it.
-fn put_closed(alloc: Global, job: &Job<Body>, row: &Row, out: &mut String) -> Result<bool, Stop> {
+// How many bytes a text has as a job will leave it, and the text.
+fn put_closed(alloc: Global, kept: &Kept<Body>, row: &Row, out: &mut String) -> Result<bool, Stop>
+    requires { AreFeeds kept.now.job kept.now.feeds.items }
+{
     let moment = row.number(3)?;
-    if !is_showable(job) || moment > LAST_MOMENT {
+    if !is_showable(&kept.job) || moment > LAST_MOMENT {
         return Err(Stop::NoSuchRow);
     }
+    let kind = kind(row, 1)?;
     let cancelled = row.number(2)? == 1;
-    let text = closed_text(alloc, LOGIN, job, kind(row, 1)?, cancelled, moment)?;
-    put_escaped(out, text.as_slice())?;
-    Ok(true)
+    let len = closed_len(alloc, LOGIN, kept, kind, cancelled, moment)?;
+    write!(out, "{len}")?;
+    put_behind(
+        closed_text(alloc, LOGIN, kept, kind, cancelled, moment)?.as_slice(),
+        out,
+    )
 }
 
 // A text that is read in pieces of so many bytes.
-fn put_pieces(alloc: Global, job: &Job<Body>, row: &Row, out: &mut String) -> Result<bool, Stop> {
-    if !is_showable(job) {
+fn put_pieces(alloc: Global, kept: &Kept<Body>, row: &Row, out: &mut String) -> Result<bool, Stop>
+    requires { AreFeeds kept.now.job kept.now.feeds.items }
+{
+    if !is_showable(&kept.job) {
         return Err(Stop::NoSuchRow);
     }
-    let mut lines = Lines::live(alloc, LOGIN, job, kind(row, 1)?)?;
+    let mut lines = Lines::live(alloc, LOGIN, kept, kind(row, 1)?)?;
     put_lines(alloc, &mut lines, row.number(2)?, out)
 }
 
 // The same of a text as a job will leave it.
-fn put_archive(alloc: Global, job: &Job<Body>, row: &Row, out: &mut String) -> Result<bool, Stop> {
+fn put_archive(alloc: Global, kept: &Kept<Body>, row: &Row, out: &mut String) -> Result<bool, Stop>
+    requires { AreFeeds kept.now.job kept.now.feeds.items }
+{
     let moment = row.number(3)?;
-    if !is_showable(job) || moment > LAST_MOMENT {
+    if !is_showable(&kept.job) || moment > LAST_MOMENT {
         return Err(Stop::NoSuchRow);
     }
     let cancelled = row.number(2)? == 1;
-    let mut lines = Lines::closed(alloc, LOGIN, job, kind(row, 1)?, cancelled, moment)?;
+    let mut lines = Lines::closed(alloc, LOGIN, kept, kind(row, 1)?, cancelled, moment)?;
     put_lines(alloc, &mut lines, row.number(4)?, out)
 }
 
@@ -255,8 +269,8 @@ fn set_done(job: &mut Job<Body>, row: &Row) -> Result<bool, Stop> {
     Ok(true)
 }
 
-// The answer to a row on a job, if it is one.
-fn on_job(alloc: Global, job: &mut Job<Body>, row: &Row, out: &mut String) -> Result<bool, Stop> {
+// Whether a row changes a job, which it then does.
+fn changes(alloc: Global, job: &mut Job<Body>, row: &Row) -> Result<bool, Stop> {
     match row.text(0)? {
         "input" => add_input(alloc, job, row),
         "missing" => add_missing(alloc, job, row),
@@ -264,10 +278,19 @@ fn on_job(alloc: Global, job: &mut Job<Body>, row: &Row, out: &mut String) -> Re
         "bad" => add_entry(job, row, bad(alloc, row)?),
         "input-end" => end_input(job),
         "done" => set_done(job, row),
-        "text" => put_text(alloc, job, row, out),
-        "closed" => put_closed(alloc, job, row, out),
-        "pieces" => put_pieces(alloc, job, row, out),
-        "archive" => put_archive(alloc, job, row, out),
+        _ => Ok(false),
+    }
+}
+
+// The answer to a row on the texts of a job, if it is one.
+fn on_kept(alloc: Global, kept: &Kept<Body>, row: &Row, out: &mut String) -> Result<bool, Stop>
+    requires { AreFeeds kept.now.job kept.now.feeds.items }
+{
+    match row.text(0)? {
+        "text" => put_text(alloc, kept, row, out),
+        "closed" => put_closed(alloc, kept, row, out),
+        "pieces" => put_pieces(alloc, kept, row, out),
+        "archive" => put_archive(alloc, kept, row, out),
         _ => Ok(false),
     }
 }
@@ -289,15 +312,25 @@ impl Texts {
         }
     }
 
+    // The answer to a row on the job, if there is one and it is one.
+    fn on_job(&mut self, alloc: Global, row: &Row, out: &mut String) -> Result<bool, Stop> {
+        let Some(mut job) = self.job.take() else {
+            return Ok(false);
+        };
+        let changed = changes(alloc, &mut job, row)?;
+        let kept = Kept::with_feeds(alloc, job)?;
+        let answered = changed || on_kept(alloc, &kept, row, out)?;
+        let Kept { job, .. } = kept;
+        self.job = Some(job);
+        Ok(answered)
+    }
+
     /// The answer to a row of this crate, if it is one.
     pub fn answer(&mut self, alloc: Global, row: &Row, out: &mut String) -> Result<bool, Stop> {
         if row.call() == b"job".as_slice() {
             self.make(alloc, row)?;
             return Ok(true);
         }
-        match &mut self.job {
-            None => Ok(false),
-            Some(job) => on_job(alloc, job, row, out),
-        }
+        self.on_job(alloc, row, out)
     }
 }

@@ -8,7 +8,7 @@ use Rattle.std.proofs.lemmas.List.{length-replicate}
 use Rattle.mt_types.specs.declared.job.Job.{Job}
 use Rattle.mt_model.proofs.Maps.{length-map, slice_get-map}
 use Rattle.mt_feeds.specs.declared.kept.At.{At}
-use Rattle.mt_feeds.specs.Kept.{IsKept, index_of, lists_of}
+use Rattle.mt_feeds.specs.Kept.{AreFeeds, IsKept, index_of, lists_of}
 use Rattle.mt_feeds.proofs.Opened.{none_before}
 
 same_from_replicate : {X : Type 0} (n i : ℕ) (x y : X) → slice_get (replicate n x) i ≡ Some y → y ≡ x
@@ -25,6 +25,10 @@ module _ {X : Type 0} (lists : List (Vec X Global)) (n : ℕ) (empty : map (λ w
   each_empty i w at =
       same_from_replicate n i [] w.items
       (ap (λ l. slice_get l i) (sym empty) ∙ slice_get-map (λ (w : Vec X Global). w.items) lists i ∙ ap (option_map (λ (w : Vec X Global). w.items)) at)
+
+-- nothing is noted of a trace that has not begun
+pub feeds_first : {B : Type 0} (job : Job B) (feeds : List (Vec At Global)) → map (λ w. w.items) feeds ≡ replicate (length job.document.phases) [] → AreFeeds (record job { trace = [] }) feeds
+feeds_first job feeds empty = record { each = as_many feeds (length job.document.phases) empty; noted = each_empty feeds (length job.document.phases) empty }
 
 module _ {B : Type 0} (job : Job B) (feeds : Vec (Vec At Global) Global) (shares : Vec (Vec (Vec ℕ Global) Global) Global) (trace : job.trace ≡ []) (so_far : job.ended ≡ false)
     (no_feeds : map (λ w. w.items) feeds.items ≡ replicate (length job.document.phases) []) (no_shares : map (λ w. w.items) shares.items ≡ replicate (length job.document.phases) []) where

@@ -1,14 +1,14 @@
 -- Where outputs stand as the trace grows, and what stands there.
-use Rattle.std.proofs.Common.{◌≡◌, ℕ, ◌+◌, ◌-◌, ◌<◌, ◌==◌, Bool, true, false, cond, List, [], ◌∷◌, ◌++◌, length, map, set, get_or, Option, Some, refl, sym, ap, ◌∙◌, arith, zero, suc, append-nil, append_assoc, eq-eqb, true≢false}
+use Rattle.std.proofs.Common.{◌≡◌, ℕ, ◌+◌, ◌-◌, ◌<◌, ◌≤◌, ◌==◌, Bool, true, false, cond, List, [], ◌∷◌, ◌++◌, length, map, set, get_or, Option, Some, refl, sym, ap, ◌∙◌, arith, zero, suc, append-nil, append_assoc, eq-eqb, true≢false}
 use Rattle.std.specs.List.{enumerate_from, filter, flat_map, range_with_len, slice_get}
 use Rattle.std.specs.Option.{option_and_then, unwrap_or}
 use Rattle.std.specs.declared.alloc.Global.{Global}
 use Rattle.std.specs.declared.vec.Vec.{Vec}
-use Rattle.std.proofs.lemmas.Bool.{eqb-true}
+use Rattle.std.proofs.lemmas.Bool.{eqb-true, ne_eqb}
 use Rattle.std.proofs.lemmas.Grind.{flat_map-append}
 use Rattle.std.proofs.lemmas.List.{length-set}
 use Rattle.std.proofs.lemmas.List.Elements.{filter-append}
-use Rattle.std.proofs.lemmas.Option.{slice_get-get_or}
+use Rattle.std.proofs.lemmas.Option.{slice_get-get_or, slice_get_within}
 use Rattle.mt_types.specs.declared.job.Job.{Job}
 use Rattle.mt_types.specs.declared.job.TraceEntry.{TraceEntry}
 use Rattle.mt_model.specs.Feed.{entries_of, feed, items_in, items_of}
@@ -83,6 +83,16 @@ module _ {B : Type 0} where
   feeds_entered job feeds e f new are less is more = record {
     each = length-set feeds e.phase new ∙ are.each;
     noted = λ n g found. noted_case job feeds e f new are less is more n g (e.phase == n) refl found;
+  }
+
+  -- and so they do where the job has not its phase
+  pub feeds_passed : (job : Job B) (feeds : List (Vec At Global)) (e : TraceEntry B) → AreFeeds job feeds → length feeds ≤ e.phase → AreFeeds (with_entry e job) feeds
+  feeds_passed job feeds e are past = record {
+    each = are.each;
+    noted = λ n g found.
+        let other : (e.phase == n) ≡ false = ne_eqb e.phase n (λ same. let less = slice_get_within feeds n g found in absurd (omega (arith, same, less, past))) in
+        are.noted n g found
+        ∙ sym (index_push n job.trace e ∙ ap (λ b. index_of n job.trace ++ cond b (outputs_at (length job.trace, e)) []) other ∙ append-nil (index_of n job.trace));
   }
 
   -- ---- what stands there

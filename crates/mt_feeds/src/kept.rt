@@ -50,8 +50,8 @@ fn item_at<B>(trace: &[TraceEntry<B>], at: At) -> Option<&Item<B>>
     }
 }
 
-// Notes the outputs of an entry: so many, at its place in the trace.
-fn note(feed: &mut Vec<At>, entry: usize, count: usize) -> Result<(), AllocError>
+/// Notes the outputs of an entry: so many, at its place in the trace.
+pub(crate) fn note(feed: &mut Vec<At>, entry: usize, count: usize) -> Result<(), AllocError>
     ensures { OnOk result (feed.new.items ≡ feed.old.items ++ places_at entry count) }
 {
     for item in 0..count {

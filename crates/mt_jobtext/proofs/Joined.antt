@@ -5,6 +5,7 @@ use Rattle.std.specs.Option.{option_and_then}
 use Rattle.std.proofs.lemmas.Bool.{eq-eqb, ne_eqb}
 use Rattle.std.proofs.lemmas.Bool.Decides.{eqb_tells}
 use Rattle.std.proofs.lemmas.Grind.{flat_map-append}
+use Rattle.json.specs.Print.{escape}
 use Rattle.serde_json.specs.Data.{Data}
 use Rattle.serde_json.specs.Written.{compact_text}
 use Rattle.mt_path.specs.AccountPath.{path_text}
@@ -18,11 +19,14 @@ use Rattle.mt_model.specs.Tasks.{object_read}
 use Rattle.mt_jobtext.specs.Ended.{ended_as}
 use Rattle.mt_jobtext.specs.JobTexts.{error_where_bad, errors_of, failed_error, failed_name, line, missing_error, name_where_bad, names_failed, names_missing, posted_text, reducer_of_task, task_data, text_of}
 use Rattle.mt_jobtext.specs.Pieces.{HasStats, first_pieces, adding_tasks, joined_pieces, line_of, output_lines, pieces_of, shown_text, task_piece}
+use Rattle.mt_jobtext.specs.StatusPieces.{part_count, part_of, status_front, status_pieces, status_rest}
 use Rattle.mt_jobtext.specs.declared.pieces.Shown.{Shown}
 use Rattle.mt_jobtext.specs.declared.stats.Stats.{Stats}
 use Rattle.mt_jobtext.specs.declared.status.Ending.{Ending}
 use Rattle.mt_jobtext.specs.declared.text.LiveText.{LiveText}
 use Rattle.mt_jobtext.specs.declared.text.LiveText.TheVariants as live
+use Rattle.mt_jobtext.proofs.Cut.{cut_joined, parts_escaped}
+use Rattle.mt_jobtext.proofs.Texts.{status_written}
 
 picked : (b : Bool) → cond b live.In live.Out ≡ live.Status → live.Out ≡ live.Status
 picked true is = cc
@@ -155,7 +159,12 @@ module _ {B : Type 0} where
       ∙ sym (lines_of_map line compact_text (map task_data job.trace))
 
   status_joined : (login : List ℕ) (job : Job B) (ending : Ending) → pieces login job ending live.Status ≡ text_of login (ended_as job ending) live.Status
-  status_joined login job ending = append-nil (text_of login (ended_as job ending) live.Status)
+  status_joined login job ending =
+      let ended = ended_as job ending in
+      whole (status_pieces login ended)
+      ∙ cut_joined (status_front ended) (status_rest login ended) (λ k. escape (part_of job.document.name k)) (part_count job.document.name)
+      ∙ ap (λ (name : List ℕ). status_front ended ++ (name ++ status_rest login ended)) (parts_escaped job.document.name)
+      ∙ status_written login ended
 
   out_joined : (login : List ℕ) (job : Job B) (ending : Ending) (n : ℕ) → length job.document.phases ≡ n → pieces login job ending (cond (n == 0) live.In live.Out) ≡ text_of login (ended_as job ending) live.Out
   out_joined login job ending zero is =
@@ -173,15 +182,15 @@ module _ {B : Type 0} where
   by_text login job ending live.Tasks = tasks_text login job ending
   by_text login job ending live.Status = status_joined login job ending
 
-  pub pieces_joined : (s : Shown B) (text : LiveText) → s.text ≡ shown_text s.job.now text → joined_pieces s ≡ text_of s.login.now (ended_as s.job.now s.ending) text
+  pub pieces_joined : (s : Shown B) (text : LiveText) → s.text ≡ shown_text s.kept.now.job text → joined_pieces s ≡ text_of s.login.now (ended_as s.kept.now.job s.ending) text
   unfolding pieces_of
-  pieces_joined s text is = ap (pieces s.login.now s.job.now s.ending) is ∙ by_text s.login.now s.job.now s.ending text
+  pieces_joined s text is = ap (pieces s.login.now s.kept.now.job s.ending) is ∙ by_text s.login.now s.kept.now.job s.ending text
 
   -- the lines of inputs, and of outputs
-  pub inputs_are : (s : Shown B) → s.text ≡ live.In → joined_pieces s ≡ flat_map (λ (i : Item B). line (path_text s.login.now i.name)) s.job.now.inputs
+  pub inputs_are : (s : Shown B) → s.text ≡ live.In → joined_pieces s ≡ flat_map (λ (i : Item B). line (path_text s.login.now i.name)) s.kept.now.job.inputs
   unfolding pieces_of
-  inputs_are s is = ap (pieces s.login.now s.job.now s.ending) is ∙ whole (map (item_line s.login.now) s.job.now.inputs) ∙ joined_map (item_line s.login.now) s.job.now.inputs
+  inputs_are s is = ap (pieces s.login.now s.kept.now.job s.ending) is ∙ whole (map (item_line s.login.now) s.kept.now.job.inputs) ∙ joined_map (item_line s.login.now) s.kept.now.job.inputs
 
-  pub outputs_are : (s : Shown B) → s.text ≡ live.Out → joined_pieces s ≡ flat_map (output_lines s.login.now (length s.job.now.document.phases)) s.job.now.trace
+  pub outputs_are : (s : Shown B) → s.text ≡ live.Out → joined_pieces s ≡ flat_map (output_lines s.login.now (length s.kept.now.job.document.phases)) s.kept.now.job.trace
   unfolding pieces_of
-  outputs_are s is = ap (pieces s.login.now s.job.now s.ending) is ∙ joined_map (output_lines s.login.now (length s.job.now.document.phases)) s.job.now.trace
+  outputs_are s is = ap (pieces s.login.now s.kept.now.job s.ending) is ∙ joined_map (output_lines s.login.now (length s.kept.now.job.document.phases)) s.kept.now.job.trace

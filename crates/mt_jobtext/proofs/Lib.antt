@@ -2,10 +2,12 @@ pub mod Windows
 pub mod Spelled
 pub mod Texts
 pub mod Lists
+pub mod Cut
 pub mod Joined
 pub mod Bodies
 pub mod Numbered
-pub mod Outputs
 pub mod Chunks
 pub mod Filled
 pub mod PathTexts
+pub mod Archived
+pub mod Showable

@@ -13,13 +13,13 @@ length_map f (x ∷ xs) = λ k. suc (length_map f xs k)
 
 module _ {B : Type 0} (s : Shown B) where
   abbrev firsts : List (List ℕ)
-  firsts = first_pieces s.login.now s.job.now s.ending s.text
+  firsts = first_pieces s.login.now s.kept.now.job s.ending s.text
 
   abbrev tasks : List (TraceEntry B)
-  tasks = adding_tasks s.job.now s.text
+  tasks = adding_tasks s.kept.now.job s.text
 
   abbrev adds : TraceEntry B → List ℕ
-  adds = task_piece s.login.now s.job.now s.text
+  adds = task_piece s.login.now s.kept.now.job s.text
 
   pub pieces_count : length (pieces_of s) ≡ length firsts + length tasks
   unfolding pieces_of

@@ -3,13 +3,12 @@ use Rattle.std.proofs.Common.{◌≡◌, ℕ, Bool, true, false, List, [], ◌�
 use Rattle.std.specs.Prelude.{codes, decimal}
 use Rattle.std.specs.Str.Lossy.{utf8_lossy}
 use Rattle.json.specs.Print.{escape, escape_byte, quoted}
-use Rattle.serde_json.specs.Data.{Data, boolean, string}
+use Rattle.serde_json.specs.Data.{Data, string}
 use Rattle.serde_json.specs.View.{items_of}
 use Rattle.serde_json.specs.Written.{comma_if, compact_text, items_text}
 use Rattle.mt_jobdoc.specs.Printed.{assets_data, phase_data, phases_data, type_name}
 use Rattle.mt_model.specs.Feed.{items_of as made}
 use Rattle.mt_model.specs.Finished.{outputs_of}
-use Rattle.mt_model.specs.Names.{job_name}
 use Rattle.mt_path.specs.AccountPath.{AccountPath, path_text}
 use Rattle.mt_types.specs.declared.document.JobDocument.{JobDocument}
 use Rattle.mt_types.specs.declared.document.PhaseKind.{PhaseKind}
@@ -18,9 +17,10 @@ use Rattle.mt_types.specs.declared.job.Job.{Job}
 use Rattle.mt_types.specs.declared.job.TraceEntry.{TraceEntry}
 use Rattle.mt_types.specs.declared.task.TaskFailure.{TaskFailure}
 use Rattle.mt_jobtext.specs.Ended.{stats_text}
-use Rattle.mt_jobtext.specs.JobTexts.{errors_of, failure_code, failure_message, line, missing_error, outcome_word, state_word, stats_data, status_data, task_data, task_error, time_data}
+use Rattle.mt_jobtext.specs.JobTexts.{errors_of, failure_code, failure_message, line, missing_error, outcome_word, stats_data, status_data, task_data, task_error}
 use Rattle.mt_jobtext.specs.Members.{count_text, init_text, input_text, listed, reducer_text}
 use Rattle.mt_jobtext.specs.Pieces.{HasStats}
+use Rattle.mt_jobtext.specs.StatusPieces.{status_front, status_rest}
 use Rattle.mt_jobtext.specs.declared.stats.Stats.{Stats}
 
 pub missing_text : (text : List ℕ)
@@ -57,13 +57,8 @@ module _ {B : Type 0} where
   pub stats_written : (login : List ℕ) (job : Job B) (stats : Stats) → HasStats job stats → stats_text stats ≡ compact_text (stats_data login job)
   stats_written login job stats has = stats_same login job stats.errors stats.inputs stats.outputs stats.tasks (has.errors login) has.inputs has.outputs has.tasks
 
-  pub status_written : (login : List ℕ) (job : Job B)
-      → codes "{\"cancelled\":" ++ (compact_text (boolean job.cancelled) ++ (codes ",\"id\":" ++ (quoted (job_name job.number) ++ (codes ",\"inputDone\":" ++ (compact_text (boolean job.ended)
-      ++ (codes ",\"name\":" ++ (quoted job.document.name ++ (codes ",\"phases\":" ++ (compact_text (phases_data login job.document) ++ (codes ",\"state\":" ++ (quoted (state_word job.done)
-      ++ (codes ",\"stats\":" ++ (compact_text (stats_data login job) ++ (codes ",\"timeCreated\":" ++ (compact_text (time_data (Some job.created))
-      ++ (codes ",\"timeDone\":" ++ (compact_text (time_data job.done) ++ codes "}")))))))))))))))))
-      ≡ compact_text (status_data login job)
-  unfolding status_data escape_byte
+  pub status_written : (login : List ℕ) (job : Job B) → status_front job ++ (escape job.document.name ++ status_rest login job) ≡ compact_text (status_data login job)
+  unfolding status_front status_rest status_data escape_byte
   status_written login job = simp append_assoc
 
 -- a list in brackets

@@ -29,7 +29,7 @@ drop_less passed skip xs is = elim (cases_Bool (nat_lt skip (length xs))) [
   | inr past ↦ let all : length xs ≤ skip = ltb-false skip (length xs) past in drop_all passed xs (omega (arith, is, all)) ∙ sym (drop_all skip xs all)
 ]
 
-take_less : (count room : ℕ) (xs : List ℕ) → count ≡ min (length xs) room → take count xs ≡ take room xs
+pub take_less : (count room : ℕ) (xs : List ℕ) → count ≡ min (length xs) room → take count xs ≡ take room xs
 take_less count room xs is = elim (cases_Bool (nat_lt room (length xs))) [
   | inl within ↦ let same : count ≡ room = omega (arith, is, ltb-true room (length xs) within) in ap (λ n. take n xs) same
   | inr past ↦ let all : length xs ≤ room = ltb-false room (length xs) past in take_all count xs (omega (arith, is, all)) ∙ sym (take_all room xs all)

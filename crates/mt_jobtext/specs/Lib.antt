@@ -2,7 +2,9 @@ pub mod JobTexts
 pub mod Windows
 pub mod Members
 pub mod Ended
+pub mod StatusPieces
 pub mod Pieces
 pub mod Places
 pub mod Lines
 pub mod Laws
+pub mod Archives

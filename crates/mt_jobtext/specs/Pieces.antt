@@ -1,5 +1,5 @@
 -- The texts of a job cut in pieces, each made of one value that the job holds.
-use Rattle.std.specs.Prelude.{◌≡◌, ℕ, ◌<◌, ◌≤◌, ◌+◌, ◌^◌, ◌==◌, Bool, true, false, List, [], ◌∷◌, ◌++◌, map, length, Option, Some, None, slice_index_or, option_map, option_and_then, IfSome, if◌then◌else◌}
+use Rattle.std.specs.Prelude.{◌≡◌, ℕ, ◌<◌, ◌≤◌, ◌+◌, ◌^◌, ◌==◌, Bool, true, false, List, [], ◌++◌, map, length, Option, Some, None, slice_index_or, option_map, option_and_then, IfSome, if◌then◌else◌}
 use Rattle.std.specs.List.{flat_map, slice_get}
 use Rattle.serde_json.specs.Written.{compact_text}
 use Rattle.mt_base.specs.declared.limits.TheConstants.{LAST_MOMENT}
@@ -11,6 +11,7 @@ use Rattle.mt_types.specs.declared.job.Job.{Job}
 use Rattle.mt_types.specs.declared.job.Outcome.{Outcome}
 use Rattle.mt_types.specs.declared.job.Outcome.TheVariants.{Good, Bad}
 use Rattle.mt_types.specs.declared.job.TraceEntry.{TraceEntry}
+use Rattle.mt_feeds.specs.Kept.{AreFeeds}
 use Rattle.mt_model.specs.Feed.{feed, items_of}
 use Rattle.mt_model.specs.Finished.{outputs_of}
 use Rattle.mt_jobtext.specs.declared.text.LiveText.{LiveText}
@@ -19,7 +20,8 @@ use Rattle.mt_jobtext.specs.declared.pieces.Shown.{Shown}
 use Rattle.mt_jobtext.specs.declared.stats.Stats.{Stats}
 use Rattle.mt_jobtext.specs.declared.status.Ending.{Ending}
 use Rattle.mt_jobtext.specs.Ended.{ended_as}
-use Rattle.mt_jobtext.specs.JobTexts.{errors_of, failed_error, failed_name, line, live_status, missing_error, posted_text, task_data}
+use Rattle.mt_jobtext.specs.JobTexts.{errors_of, failed_error, failed_name, line, missing_error, posted_text, task_data}
+use Rattle.mt_jobtext.specs.StatusPieces.{status_pieces}
 
 -- a line, if there is one
 abbrev pub line_of : Option (List ℕ) → List ℕ
@@ -85,7 +87,7 @@ module _ {B : Type 0} where
   first_pieces login job ending live.Fail = map (λ l. line (posted_text login l)) job.missing
   first_pieces login job ending live.Err = map (λ l. line (compact_text (missing_error (posted_text login l)))) job.missing
   first_pieces login job ending live.Tasks = []
-  first_pieces login job ending live.Status = live_status login (ended_as job ending) ∷ []
+  first_pieces login job ending live.Status = status_pieces login (ended_as job ending)
 
   -- the tasks that add to a text
   abbrev pub adding_tasks : Job B → LiveText → List (TraceEntry B)
@@ -117,8 +119,8 @@ module _ {B : Type 0} where
   -- the pieces of a text
   unfoldable pub pieces_of : Shown B → List (List ℕ)
   pieces_of s =
-      first_pieces s.login.now s.job.now s.ending s.text
-      ++ map (task_piece s.login.now s.job.now s.text) (adding_tasks s.job.now s.text)
+      first_pieces s.login.now s.kept.now.job s.ending s.text
+      ++ map (task_piece s.login.now s.kept.now.job s.text) (adding_tasks s.kept.now.job s.text)
 
   -- all of them
   abbrev pub joined_pieces : Shown B → List ℕ
@@ -128,7 +130,8 @@ module _ {B : Type 0} where
   abbrev pub piece_at : Shown B → ℕ → List ℕ
   piece_at s next = slice_index_or (pieces_of s) next []
 
-  -- what its status needs is known
+  -- what its status needs is known, and where the outputs of its tasks stand
   pub record IsShown (s : Shown B) : Type 0 where
-    pub showable : IsShowable (ended_as s.job.now s.ending)
-    pub stats : NeedsStats (ended_as s.job.now s.ending) s.text s.stats
+    pub showable : IsShowable (ended_as s.kept.now.job s.ending)
+    pub feeds : AreFeeds s.kept.now.job s.kept.now.feeds.items
+    pub stats : NeedsStats (ended_as s.kept.now.job s.ending) s.text s.stats

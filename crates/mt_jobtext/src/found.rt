@@ -2,29 +2,32 @@
 ghost use Rattle.std.specs.Prelude.{◌≡◌, option_copied, option_map};
 ghost use Rattle.std.specs.List.{slice_get};
 ghost use Rattle.mt_model.specs.Feed as model;
-ghost use Rattle.mt_model.specs.Feed.{entries_of, feed, items_in};
+ghost use Rattle.mt_feeds.specs.Kept.{AreFeeds};
 ghost use Rattle.mt_jobtext.specs.JobTexts as words;
 ghost use Rattle.mt_jobtext.specs.Pieces as pieces;
 
+use mt_feeds::Kept;
 use mt_path::Path;
 use mt_types::{Item, Job, Outcome, PhaseKind, TraceEntry};
 
-/// The name of the object that a failed map task read. Past the first phase this walks over the committed tasks.
-pub(crate) fn failed_path<'a, B>(job: &'a Job<B>, entry: &TraceEntry<B>) -> Option<&'a Path>
-    ensures { option_copied result ≡ pieces.failed_path job.now entry.now }
+/// The name of the object that a failed map task read, by look-ups.
+pub(crate) fn failed_path<'a, B>(kept: &'a Kept<B>, entry: &TraceEntry<B>) -> Option<&'a Path>
+    requires { AreFeeds kept.now.job kept.now.feeds.items }
+    ensures { option_copied result ≡ pieces.failed_path kept.now.job entry.now }
 {
     match &entry.outcome {
         Outcome::Good(_) => None,
-        Outcome::Bad { .. } => path_of_task(job, entry.phase, entry.place),
+        Outcome::Bad { .. } => path_of_task(kept, entry.phase, entry.place),
     }
 }
 
-/// The name of the object that the task at a place of a phase reads, if it is a map task.
-pub(crate) fn path_of_task<B>(job: &Job<B>, phase: u32, place: u64) -> Option<&Path>
-    ensures { option_copied result ≡ pieces.path_of_task job.now phase place }
+/// The name of the object that the task at a place of a phase reads, if it is a map task: by look-ups.
+pub(crate) fn path_of_task<B>(kept: &Kept<B>, phase: u32, place: u64) -> Option<&Path>
+    requires { AreFeeds kept.now.job kept.now.feeds.items }
+    ensures { option_copied result ≡ pieces.path_of_task kept.now.job phase place }
 {
-    match kind_of(job, phase)? {
-        PhaseKind::Map => Some(&item_at(job, phase, place)?.name),
+    match kind_of(&kept.job, phase)? {
+        PhaseKind::Map => Some(&kept.item(phase, place)?.name),
         PhaseKind::Reduce { .. } => None,
     }
 }
@@ -57,39 +60,6 @@ fn kind_of<B>(job: &Job<B>, phase: u32) -> Option<PhaseKind>
         Some(found) => Some(found.kind),
         None => None,
     }
-}
-
-// The item at a place of what a phase reads.
-fn item_at<B>(job: &Job<B>, phase: u32, place: u64) -> Option<&Item<B>>
-    ensures { option_copied result ≡ slice_get (feed job.now phase) place }
-{
-    if phase == 0 {
-        job.inputs.as_slice().get(place as usize)
-    } else {
-        output_at(job.trace.as_slice(), phase as usize - 1, place as usize)
-    }
-}
-
-// The item at a place of what the tasks of a phase made.
-fn output_at<B>(trace: &[TraceEntry<B>], phase: usize, place: usize) -> Option<&Item<B>>
-    ensures { option_copied result ≡ slice_get (items_in (entries_of phase trace.now)) place }
-{
-    let mut left = place;
-    for entry in trace {
-        let items = outputs_in(entry, phase);
-        if left < items.len() {
-            return item_of(items, left);
-        }
-        left -= items.len();
-    }
-    None
-}
-
-// The item at a place.
-fn item_of<B>(items: &[Item<B>], place: usize) -> Option<&Item<B>>
-    ensures { option_copied result ≡ slice_get items.now place }
-{
-    items.get(place)
 }
 
 /// What a committed task made, if it is one of this phase.

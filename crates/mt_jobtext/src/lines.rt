@@ -1,14 +1,15 @@
 //! A text of a job as a source, which is made while it is read.
 use crate::fill::{Place, fill};
 use crate::pieces::Shown;
+use crate::sizes::joined_len;
 use crate::stats::needed_stats;
 use crate::status::Ending;
 use crate::text::LiveText;
-use crate::whole::{joined_len, piece_count, shown};
+use crate::whole::{piece_count, shown};
 use crate::window::Window;
 use mt_base::LAST_MOMENT;
 use mt_edge::{ReadStep, Source};
-use mt_types::Job;
+use mt_feeds::Kept;
 use std::alloc::{AllocError, Global};
 use std::marker::Model;
 
@@ -41,6 +42,7 @@ impl<'a, B> Model for Lines<'a, B> {
 
 impl<'a, B> Lines<'a, B> {
     ghost use Rattle.std.specs.Prelude.{◌≡◌, ◌≤◌, IfOk, length};
+    ghost use Rattle.mt_feeds.specs.Kept.{AreFeeds};
     ghost use Rattle.mt_model.specs.JobSteps.{done_at};
     ghost use Rattle.mt_jobtext.specs.Ended.{ended_as};
     ghost use Rattle.mt_jobtext.specs.JobTexts.{text_of};
@@ -50,52 +52,55 @@ impl<'a, B> Lines<'a, B> {
     pub fn live(
         alloc: Global,
         login: &'a str,
-        job: &'a Job<B>,
+        kept: &'a Kept<B>,
         text: LiveText,
     ) -> Result<Lines<'a, B>, AllocError>
-        requires { IsShowable job.now }
-        ensures { IfOk result (λ lines. lines ≡ text_of login.now job.now text) }
+        requires showable { IsShowable kept.now.job }
+        requires feeds { AreFeeds kept.now.job kept.now.feeds.items }
+        ensures { IfOk result (λ lines. lines ≡ text_of login.now kept.now.job text) }
     {
         let ending = Ending {
-            cancelled: job.cancelled,
-            done: job.done,
+            cancelled: kept.job.cancelled,
+            done: kept.job.done,
         };
-        Lines::of(alloc, login, job, ending, text)
+        Lines::of(alloc, login, kept, ending, text)
     }
 
     /// A text of a job as it will be once it is done at a moment, in seconds since 1970.
     pub fn closed(
         alloc: Global,
         login: &'a str,
-        job: &'a Job<B>,
+        kept: &'a Kept<B>,
         text: LiveText,
         cancelled: bool,
         moment: u64,
     ) -> Result<Lines<'a, B>, AllocError>
-        requires showable { IsShowable job.now }
+        requires showable { IsShowable kept.now.job }
+        requires feeds { AreFeeds kept.now.job kept.now.feeds.items }
         requires moment { moment ≤ LAST_MOMENT }
-        ensures { IfOk result (λ lines. lines ≡ text_of login.now (done_at moment cancelled job.now) text) }
+        ensures { IfOk result (λ lines. lines ≡ text_of login.now (done_at moment cancelled kept.now.job) text) }
     {
         let ending = Ending {
             cancelled,
             done: Some(moment),
         };
-        Lines::of(alloc, login, job, ending, text)
+        Lines::of(alloc, login, kept, ending, text)
     }
 
     // A text of a job that ended so. Numbers that are not below 2 ^ 64 are told as want of memory, since none holds so much.
     fn of(
         alloc: Global,
         login: &'a str,
-        job: &'a Job<B>,
+        kept: &'a Kept<B>,
         ending: Ending,
         text: LiveText,
     ) -> Result<Lines<'a, B>, AllocError>
-        requires { IsShowable (ended_as job.now ending) }
-        ensures { IfOk result (λ lines. lines ≡ text_of login.now (ended_as job.now ending) text) }
+        requires showable { IsShowable (ended_as kept.now.job ending) }
+        requires feeds { AreFeeds kept.now.job kept.now.feeds.items }
+        ensures { IfOk result (λ lines. lines ≡ text_of login.now (ended_as kept.now.job ending) text) }
     {
-        let stats = needed_stats(job, text)?;
-        let shown = shown(login, job, ending, stats, text);
+        let stats = needed_stats(&kept.job, text)?;
+        let shown = shown(login, kept, ending, stats, text);
         let count = piece_count(&shown)?;
         let left = joined_len(alloc, &shown, count)?;
         let window = Window::of(alloc, left.min(MOST).max(1) as usize)?;

@@ -1,5 +1,5 @@
 //! Numbers, and texts as JSON writes them (RFC 8259, section 7), in a window.
-ghost use Rattle.std.specs.Prelude.{◌≡◌, ◌<◌, decimal};
+ghost use Rattle.std.specs.Prelude.{◌≡◌, ◌<◌, ◌≤◌, decimal, length};
 ghost use Rattle.std.specs.Char.{digit_char};
 ghost use Rattle.std.specs.Str.Lossy.{utf8_lossy};
 ghost use Rattle.json.specs.Print.{escape, escape_byte, escape_letter, quoted};
@@ -10,6 +10,9 @@ ghost use Rattle.mt_jobtext.specs.Windows.{Puts};
 
 use crate::window::Window;
 use itoa::Buffer;
+
+/// A text is escaped by so many bytes at once.
+const BLOCK: usize = 4_096;
 
 /// U+FFFD in UTF-8, which stands for what is no text.
 const REPLACEMENT: [u8; 3] = [0xEF, 0xBF, 0xBD];
@@ -68,12 +71,75 @@ fn shown_for(bytes: &[u8]) -> &'static [u8]
     if bytes.is_empty() { &[] } else { &REPLACEMENT }
 }
 
-/// Adds a text as it stands between quotes.
+/// Adds a text as it stands between quotes, block by block.
 pub(crate) fn put_escaped(window: &mut Window, text: &[u8])
+    ensures { Puts (escape text.now) window.old window.new }
+{
+    for block in text.chunks(BLOCK) {
+        put_block(window, block);
+    }
+}
+
+// Adds a block of it. One that the window passes over whole is only counted, and one behind a full window is not looked at.
+fn put_block(window: &mut Window, block: &[u8])
+    requires { length block.now ≤ BLOCK }
+    ensures { Puts (escape block.now) window.old window.new }
+{
+    if window.skip() == 0 {
+        put_unless_full(window, block);
+        return;
+    }
+    let len = escaped_len(block);
+    if window.passes(len) {
+        window.pass(len);
+    } else {
+        put_bytes(window, block);
+    }
+}
+
+// Adds a block to a window that passes over nothing.
+fn put_unless_full(window: &mut Window, block: &[u8])
+    requires { window.old.skip ≡ 0 }
+    ensures { Puts (escape block.now) window.old window.new }
+{
+    if !window.is_full() {
+        put_bytes(window, block);
+    }
+}
+
+// Adds a text byte by byte.
+fn put_bytes(window: &mut Window, text: &[u8])
     ensures { Puts (escape text.now) window.old window.new }
 {
     for byte in text {
         put_byte(window, *byte);
+    }
+}
+
+// How long a block is between quotes.
+fn escaped_len(block: &[u8]) -> usize
+    requires { length block.now ≤ BLOCK }
+    ensures { result ≡ length (escape block.now) }
+{
+    let mut len = 0;
+    for byte in block {
+        len += byte_len(*byte);
+    }
+    len
+}
+
+// How long a byte is.
+#[tactic(auto, unfolding(json::specs::Print::escape_byte))]
+fn byte_len(byte: u8) -> usize
+    ensures len { result ≡ length (escape_byte byte) }
+    ensures few { result ≤ 6 }
+{
+    if letter(byte) > 0 {
+        2
+    } else if byte < 32 {
+        6
+    } else {
+        1
     }
 }
 

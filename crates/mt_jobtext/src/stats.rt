@@ -1,5 +1,6 @@
 //! How much there is of a job.
 ghost use Rattle.std.specs.Prelude.{◌≡◌, ℕ, ◌+◌, List, IfOk, length};
+ghost use Rattle.mt_feeds.specs.Kept.{AreFeeds};
 ghost use Rattle.mt_model.specs.Finished.{outputs_of};
 ghost use Rattle.mt_jobtext.specs.JobTexts as words;
 ghost use Rattle.mt_jobtext.specs.JobTexts.{errors_of, names_failed};
@@ -8,6 +9,7 @@ ghost use Rattle.mt_jobtext.specs.Pieces.{HasStats, NeedsStats};
 
 use crate::found::{failed_path, outputs_in};
 use crate::text::LiveText;
+use mt_feeds::Kept;
 use mt_types::{Job, Outcome, TraceEntry};
 use std::alloc::AllocError;
 
@@ -26,13 +28,15 @@ pub(crate) struct Stats {
 
 /// How many lines a text of a job has; of the status, 1. It takes no memory: the error says that the number is not below 2 ^ 64,
 /// which no memory holds.
-pub fn line_count<B>(job: &Job<B>, text: LiveText) -> Result<u64, AllocError>
-    ensures { IfOk result (λ n. (login : List ℕ) → n ≡ words.line_count login job.now text) }
+pub fn line_count<B>(kept: &Kept<B>, text: LiveText) -> Result<u64, AllocError>
+    requires { AreFeeds kept.now.job kept.now.feeds.items }
+    ensures { IfOk result (λ n. (login : List ℕ) → n ≡ words.line_count login kept.now.job text) }
 {
+    let job = &kept.job;
     match text {
         LiveText::In => Ok(job.inputs.len() as u64),
         LiveText::Out => output_count(job),
-        LiveText::Fail => name_count(job),
+        LiveText::Fail => name_count(kept),
         LiveText::Err => error_count(job),
         LiveText::Tasks => Ok(job.trace.len() as u64),
         LiveText::Status => Ok(1),
@@ -82,17 +86,18 @@ fn error_count<B>(job: &Job<B>) -> Result<u64, AllocError>
 }
 
 // The lines of names of what went wrong.
-fn name_count<B>(job: &Job<B>) -> Result<u64, AllocError>
-    ensures { IfOk result (λ n. (login : List ℕ) → n ≡ length (names_failed login job.now)) }
+fn name_count<B>(kept: &Kept<B>) -> Result<u64, AllocError>
+    requires { AreFeeds kept.now.job kept.now.feeds.items }
+    ensures { IfOk result (λ n. (login : List ℕ) → n ≡ length (names_failed login kept.now.job)) }
 {
-    let trace = job.trace.as_slice();
+    let trace = kept.job.trace.as_slice();
     let mut names = 0;
     for entry in trace {
-        if failed_path(job, entry).is_some() {
+        if failed_path(kept, entry).is_some() {
             names += 1;
         }
     }
-    let count = sum(job.missing.len() as u64, names)?;
+    let count = sum(kept.job.missing.len() as u64, names)?;
     Ok(count)
 }
 

@@ -1,17 +1,20 @@
 //! The status of a job as JSON in a window.
-ghost use Rattle.std.specs.Prelude.{◌≡◌, ◌≤◌, IfSome};
+ghost use Rattle.std.specs.Prelude.{◌≡◌, ◌<◌, ◌≤◌, ◌*◌, ◌^◌, ℕ, List, [], IfSome, length, slice_index_or};
 ghost use Rattle.serde_json.specs.Written.{compact_text};
 ghost use Rattle.mt_jobtext.specs.JobTexts as words;
-ghost use Rattle.mt_jobtext.specs.JobTexts.{status_data, time_data};
+ghost use Rattle.mt_jobtext.specs.JobTexts.{time_data};
 ghost use Rattle.mt_jobtext.specs.Ended.{ended_as, stats_text};
 ghost use Rattle.mt_jobtext.specs.Pieces.{HasStats, IsShowable};
+ghost use Rattle.mt_jobtext.specs.StatusPieces as cut;
+ghost use Rattle.mt_jobtext.specs.StatusPieces.{status_front, status_pieces, status_rest};
+ghost use Rattle.mt_jobtext.specs.declared.status.Ending.{Ending};
 ghost use Rattle.mt_jobtext.specs.Windows.{Puts};
 
 use crate::phases::put_phases;
-use crate::quotes::{put_flag, put_number, put_quoted};
+use crate::quotes::{put_escaped, put_flag, put_number, put_quoted};
 use crate::stats::Stats;
 use crate::window::Window;
-use mt_base::LAST_MOMENT;
+use mt_base::{LAST_MOMENT, Text};
 use mt_ident::{iso_time, uuid_text};
 use mt_types::Job;
 
@@ -24,18 +27,63 @@ pub(crate) struct Ending {
     pub(crate) done: Option<u64>,
 }
 
-/// Adds the status of a job that ended so.
-#[tactic(auto, unfolding(crate::specs::JobTexts::status_data, json::specs::Print::escape_byte))]
+/// The name of a job stands in parts of so many bytes.
+const PART: usize = 4_096;
+
+/// How many pieces the status of a job has.
+pub(crate) fn status_count<B>(job: &Job<B>) -> usize
+    ensures { (login : List ℕ) (ending : Ending) → result ≡ length (status_pieces login (ended_as job.now ending)) }
+{
+    part_count(&job.document.name) + 2
+}
+
+// How many parts a name has.
+fn part_count(name: &Text) -> usize
+    ensures count { result ≡ cut.part_count name.now }
+    ensures few { result ≤ 2 ^ 60 }
+{
+    name.len() / PART + 1
+}
+
+// A part of a name.
+fn part_of(name: &[u8], k: usize) -> &[u8]
+    requires { k * PART ≤ length name.now }
+    ensures { result.now ≡ cut.part_of name.now k }
+{
+    let rest = &name[k * PART..];
+    let count = rest.len().min(PART);
+    &rest[..count]
+}
+
+/// Adds the piece of this number of the status of a job that ended so.
 pub(crate) fn put_status<B>(
     window: &mut Window,
     login: &str,
     job: &Job<B>,
     ending: Ending,
     stats: &Stats,
+    next: usize,
 )
     requires showable { IsShowable (ended_as job.now ending) }
     requires stats { HasStats (ended_as job.now ending) stats.now }
-    ensures { Puts (compact_text (status_data login.now (ended_as job.now ending))) window.old window.new }
+    requires there { next < length (status_pieces login.now (ended_as job.now ending)) }
+    ensures { Puts (slice_index_or (status_pieces login.now (ended_as job.now ending)) next []) window.old window.new }
+{
+    let name = &job.document.name;
+    if next == 0 {
+        put_front(window, job, ending);
+    } else if next <= part_count(name) {
+        put_escaped(window, part_of(name.as_bytes(), next - 1));
+    } else {
+        put_rest(window, login, job, ending, stats);
+    }
+}
+
+// Adds what stands before the name.
+#[tactic(auto, unfolding(crate::specs::StatusPieces::status_front))]
+fn put_front<B>(window: &mut Window, job: &Job<B>, ending: Ending)
+    requires { IsShowable (ended_as job.now ending) }
+    ensures { Puts (status_front (ended_as job.now ending)) window.old window.new }
 {
     window.put(b"{\"cancelled\":");
     put_flag(window, ending.cancelled);
@@ -43,9 +91,17 @@ pub(crate) fn put_status<B>(
     put_quoted(window, &uuid_text(2, job.number));
     window.put(b",\"inputDone\":");
     put_flag(window, job.ended);
-    window.put(b",\"name\":");
-    put_quoted(window, job.document.name.as_bytes());
-    window.put(b",\"phases\":");
+    window.put(b",\"name\":\"");
+}
+
+// Adds what stands behind it.
+#[tactic(auto, unfolding(crate::specs::StatusPieces::status_rest))]
+fn put_rest<B>(window: &mut Window, login: &str, job: &Job<B>, ending: Ending, stats: &Stats)
+    requires showable { IsShowable (ended_as job.now ending) }
+    requires stats { HasStats (ended_as job.now ending) stats.now }
+    ensures { Puts (status_rest login.now (ended_as job.now ending)) window.old window.new }
+{
+    window.put(b"\",\"phases\":");
     put_phases(window, login, &job.document);
     window.put(b",\"state\":");
     put_quoted(window, state(ending.done).as_bytes());

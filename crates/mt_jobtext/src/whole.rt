@@ -1,5 +1,6 @@
-//! A whole text of a job, and how long it is.
+//! A whole text of a job.
 ghost use Rattle.std.specs.Prelude.{◌≡◌, ◌<◌, ◌≤◌, IfOk, length};
+ghost use Rattle.mt_feeds.specs.Kept.{AreFeeds};
 ghost use Rattle.mt_model.specs.JobSteps.{done_at};
 ghost use Rattle.mt_jobtext.specs.Ended.{ended_as};
 ghost use Rattle.mt_jobtext.specs.JobTexts.{text_of};
@@ -7,13 +8,14 @@ ghost use Rattle.mt_jobtext.specs.Pieces as pieces;
 ghost use Rattle.mt_jobtext.specs.Pieces.{NeedsStats, IsShowable, IsShown, joined_pieces, pieces_of};
 
 use crate::fill::put_all;
-use crate::lengths::{items_len, outputs_len};
 use crate::pieces::{Shown, first_count, tasks};
+use crate::sizes::joined_len;
 use crate::stats::{Stats, needed_stats, sum};
 use crate::status::Ending;
 use crate::text::LiveText;
 use crate::window::Window;
 use mt_base::{Bytes, LAST_MOMENT};
+use mt_feeds::Kept;
 use mt_types::Job;
 use std::alloc::{AllocError, Global};
 
@@ -21,73 +23,55 @@ use std::alloc::{AllocError, Global};
 pub fn live_text<B>(
     alloc: Global,
     login: &str,
-    job: &Job<B>,
+    kept: &Kept<B>,
     text: LiveText,
 ) -> Result<Bytes, AllocError>
-    requires { IsShowable job.now }
-    ensures { IfOk result (λ bytes. bytes ≡ text_of login.now job.now text) }
+    requires showable { IsShowable kept.now.job }
+    requires feeds { AreFeeds kept.now.job kept.now.feeds.items }
+    ensures { IfOk result (λ bytes. bytes ≡ text_of login.now kept.now.job text) }
 {
     let ending = Ending {
-        cancelled: job.cancelled,
-        done: job.done,
+        cancelled: kept.job.cancelled,
+        done: kept.job.done,
     };
-    written(alloc, login, job, ending, text)
+    written(alloc, login, kept, ending, text)
 }
 
 /// A text of a job as it will be once it is done at a moment, in seconds since 1970. Its only allocation is the text.
 pub fn closed_text<B>(
     alloc: Global,
     login: &str,
-    job: &Job<B>,
+    kept: &Kept<B>,
     text: LiveText,
     cancelled: bool,
     moment: u64,
 ) -> Result<Bytes, AllocError>
-    requires showable { IsShowable job.now }
+    requires showable { IsShowable kept.now.job }
+    requires feeds { AreFeeds kept.now.job kept.now.feeds.items }
     requires moment { moment ≤ LAST_MOMENT }
-    ensures { IfOk result (λ bytes. bytes ≡ text_of login.now (done_at moment cancelled job.now) text) }
+    ensures { IfOk result (λ bytes. bytes ≡ text_of login.now (done_at moment cancelled kept.now.job) text) }
 {
     let ending = Ending {
         cancelled,
         done: Some(moment),
     };
-    written(alloc, login, job, ending, text)
-}
-
-/// How many bytes a text of a job as it stands has. It takes no memory: the error says that the number is not below
-/// 2 ^ 64 - 1, which no memory holds.
-pub fn text_len<B>(
-    alloc: Global,
-    login: &str,
-    job: &Job<B>,
-    text: LiveText,
-) -> Result<u64, AllocError>
-    requires { IsShowable job.now }
-    ensures { IfOk result (λ n. n ≡ length (text_of login.now job.now text)) }
-{
-    let ending = Ending {
-        cancelled: job.cancelled,
-        done: job.done,
-    };
-    let stats = needed_stats(job, text)?;
-    let shown = shown(login, job, ending, stats, text);
-    let count = piece_count(&shown)?;
-    joined_len(alloc, &shown, count)
+    written(alloc, login, kept, ending, text)
 }
 
 // A text of a job that ended so. Numbers that are not below 2 ^ 64 are told as want of memory, since none holds so much.
 fn written<B>(
     alloc: Global,
     login: &str,
-    job: &Job<B>,
+    kept: &Kept<B>,
     ending: Ending,
     text: LiveText,
 ) -> Result<Bytes, AllocError>
-    requires { IsShowable (ended_as job.now ending) }
-    ensures { IfOk result (λ bytes. bytes ≡ text_of login.now (ended_as job.now ending) text) }
+    requires showable { IsShowable (ended_as kept.now.job ending) }
+    requires feeds { AreFeeds kept.now.job kept.now.feeds.items }
+    ensures { IfOk result (λ bytes. bytes ≡ text_of login.now (ended_as kept.now.job ending) text) }
 {
-    let stats = needed_stats(job, text)?;
-    let shown = shown(login, job, ending, stats, text);
+    let stats = needed_stats(&kept.job, text)?;
+    let shown = shown(login, kept, ending, stats, text);
     let count = piece_count(&shown)?;
     let len = joined_len(alloc, &shown, count)?;
     joined(alloc, &shown, count, len)
@@ -96,22 +80,23 @@ fn written<B>(
 /// What a text is made of.
 pub(crate) fn shown<'a, B>(
     login: &'a str,
-    job: &'a Job<B>,
+    kept: &'a Kept<B>,
     ending: Ending,
     stats: Stats,
     text: LiveText,
 ) -> Shown<'a, B>
-    requires showable { IsShowable (ended_as job.now ending) }
-    requires stats { NeedsStats job.now text stats }
+    requires showable { IsShowable (ended_as kept.now.job ending) }
+    requires feeds { AreFeeds kept.now.job kept.now.feeds.items }
+    requires stats { NeedsStats kept.now.job text stats }
     ensures shown { IsShown result }
-    ensures joined { joined_pieces result ≡ text_of login.now (ended_as job.now ending) text }
+    ensures joined { joined_pieces result ≡ text_of login.now (ended_as kept.now.job ending) text }
 {
     Shown {
         login,
-        job,
+        kept,
         ending,
         stats,
-        text: shown_text(job, text),
+        text: shown_text(&kept.job, text),
     }
 }
 
@@ -138,41 +123,6 @@ pub(crate) fn piece_count<B>(shown: &Shown<B>) -> Result<usize, AllocError>
     let tasks = tasks(shown);
     let count = sum(first_count(shown) as u64, tasks.len() as u64)?;
     Ok(count as usize)
-}
-
-/// How many bytes a text has. It takes no memory: the error is a number that is not below 2 ^ 64 - 1. Names of inputs and outputs are
-/// counted by their lengths.
-pub(crate) fn joined_len<B>(
-    alloc: Global,
-    shown: &Shown<B>,
-    count: usize,
-) -> Result<u64, AllocError>
-    requires shown { IsShown shown.now }
-    requires count { count ≡ length (pieces_of shown.now) }
-    ensures { IfOk result (λ n. n ≡ length (joined_pieces shown.now)) }
-{
-    let job = shown.job;
-    match shown.text {
-        LiveText::In => items_len(shown.login, job.inputs.as_slice()),
-        LiveText::Out => outputs_len(shown.login, job.document.phases.len(), job.trace.as_slice()),
-        LiveText::Fail | LiveText::Err | LiveText::Tasks | LiveText::Status => {
-            counted_len(alloc, shown, count)
-        }
-    }
-}
-
-// The same of any text, piece by piece.
-fn counted_len<B>(alloc: Global, shown: &Shown<B>, count: usize) -> Result<u64, AllocError>
-    requires shown { IsShown shown.now }
-    requires count { count ≡ length (pieces_of shown.now) }
-    ensures { IfOk result (λ n. n ≡ length (joined_pieces shown.now)) }
-{
-    let mut window = Window::counting(alloc);
-    put_all(&mut window, shown, count);
-    if window.skip() == 0 {
-        return Err(AllocError);
-    }
-    Ok(u64::MAX - window.skip())
 }
 
 // The text of so many bytes.

@@ -8,6 +8,6 @@ use Rattle.mt_jobtext.proofs.stats.name_count.Goals as goal
 pub returns : goal.returns
 returns g c = λ login.
     let ended : length c.as_slice-trace.result.now ≤ c.loop-entry.entry-index = omega arith in
-    let all : count_by (λ e. is_some (failed_path c.args.job.now e)) (take c.loop-entry.entry-index c.as_slice-trace.result.now) ≡ count_by (λ e. is_some (failed_path c.args.job.now e)) c.args.job.now.trace =
-    ap (count_by (λ e. is_some (failed_path c.args.job.now e))) (take_all c.loop-entry.entry-index c.as_slice-trace.result.now ended ∙ c.as_slice-trace.ensures) in
-    omega (arith, names_total login c.args.job.now, all, c.in_ok-count.ensures, c.len.ensures, c.loop-entry.invariant.0)
+    let all : count_by (λ e. is_some (failed_path c.args.kept.now.job e)) (take c.loop-entry.entry-index c.as_slice-trace.result.now) ≡ count_by (λ e. is_some (failed_path c.args.kept.now.job e)) c.args.kept.now.job.trace =
+    ap (count_by (λ e. is_some (failed_path c.args.kept.now.job e))) (take_all c.loop-entry.entry-index c.as_slice-trace.result.now ended ∙ c.as_slice-trace.ensures) in
+    omega (arith, names_total login c.args.kept.now.job, all, c.in_ok-count.ensures, c.len.ensures, c.loop-entry.invariant.0)

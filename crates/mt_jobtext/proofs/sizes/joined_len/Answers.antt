@@ -4,7 +4,7 @@ use Rattle.mt_path.specs.AccountPath.{path_text}
 use Rattle.mt_jobtext.specs.JobTexts.{line}
 use Rattle.mt_jobtext.specs.Pieces.{output_lines}
 use Rattle.mt_jobtext.proofs.Joined.{inputs_are, outputs_are}
-use Rattle.mt_jobtext.proofs.whole.joined_len.Goals as goal
+use Rattle.mt_jobtext.proofs.sizes.joined_len.Goals as goal
 
 pub returns-in-In : goal.returns-in-In
 returns-in-In g c =
