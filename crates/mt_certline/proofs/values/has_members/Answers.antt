@@ -1,0 +1,6 @@
+use Rattle.std.proofs.Common.{refl}
+use Rattle.serde_json.proofs.Views.{members_len-members_view}
+use Rattle.mt_certline.proofs.values.has_members.Goals as goal
+
+pub returns-in-Some : goal.returns-in-Some
+returns-in-Some c = rw (c.len.ensures.len, ← c.in-Some.ensures, members_len-members_view) refl
