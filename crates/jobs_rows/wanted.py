@@ -203,6 +203,9 @@ class Account:
         self.rows = rows
         self.enter(job, phase, place, items, None)
 
+    def emitted(self, number, phase, place, count):
+        self.commit(number, phase, place, *["emit", "-", "-", "1"] * int(count))
+
     def committed(self, number, count):
         for place in range(int(count)):
             self.commit(number, 0, place)
@@ -263,7 +266,7 @@ class Account:
 
 
 account = Account()
-CHANGES = ("put", "directory", "make", "add", "lines", "end", "commit", "fail", "finish", "cancel", "close", "fed", "committed", "made")
+CHANGES = ("put", "directory", "make", "add", "lines", "end", "commit", "fail", "finish", "cancel", "close", "fed", "emitted", "committed", "made")
 
 
 def changed(words):
@@ -324,6 +327,8 @@ def asked(words):
         return " ".join(map(str, account.rows.get(path(words[1]), ("none",))))
     if call == "order":
         return told_order(*found, *numbers[1:]) if tuple(numbers) in account.ready() else "not ready"
+    if call == "size" and tuple(numbers) not in account.ready():
+        return "not ready"
     if not found:
         return "none"
     if call == "job":
@@ -336,6 +341,9 @@ def asked(words):
         return told_item(items[0]) if items else "none"
     if not account.may_run(found[0], phase, place) or account.is_committed(found[0], phase, place):
         return "not ready"
+    if call == "size":
+        size = sum(it["body"] for it in account.read(found[0], phase, place))
+        return f"{len(account.read(found[0], phase, place))} items, {size if size < 1 << 64 else 'too many'} bytes"
     return ", ".join(map(told_item, account.read(found[0], phase, place))) or "nothing"
 
 
@@ -441,6 +449,17 @@ def main():
 
     comment("A job has at most 1,000,000 inputs and missing lines together.")
     rows("new", "put /l/stor/a 1", f"make {job('map')}", "lines 4096 1000001", "add 4096 /l/stor/a", "lines 4096 1000000", "lines 4096 999999", "add 4096 x", "add 4096", "job 4096")
+
+    comment("A task has at most 4,095 outputs.")
+    rows("new", "put /l/stor/a 1", f"make {job('map', 2)}", "add 4096 /l/stor/a /l/stor/a", "end 4096", "emitted 4096 0 0 4094", "emitted 4096 0 1 4095", "item 4096 1 4094", "item 4096 1 8188", "item 4096 1 8189")
+    rows("size 4096 1 0", "size 4096 1 1", "put /l/stor/b 1", "emitted 4096 1 0 4095", "job 4096", f"at /l/jobs/{identifier(2, 4096)}/stor/reduce.1.{identifier(3, 7 * 4096 + 4094)}")
+
+    comment("How many items a ready task reads, and how many bytes: a sum of 2^64 has no number.")
+    rows("new", f"put /l/stor/a {1 << 63}", f"put /l/stor/b {(1 << 63) - 1}", "put /l/stor/c 1", "put /l/stor/d 0", f"make {job('map', 3)}")
+    rows("add 16384 /l/stor/a /l/stor/b /l/stor/c /l/stor/d", *[f"size 16384 0 {k}" for k in range(5)], "size 16384 1 0", "size 0 0 0", "end 16384")
+    rows("commit 16384 0 0 ref /l/stor/a - - ref /l/stor/a - -", "commit 16384 0 1 ref /l/stor/d - -", "commit 16384 0 2 ref /l/stor/b - -", "commit 16384 0 3 ref /l/stor/b - -", *[f"size 16384 1 {k}" for k in range(4)])
+    rows("new", f"put /l/stor/a {1 << 63}", f"put /l/stor/b {(1 << 63) - 1}", "put /l/stor/c 1", f"make {job('map', 2)}", "add 12288 /l/stor/a", "end 12288")
+    rows("commit 12288 0 0 ref /l/stor/a - - ref /l/stor/a - - ref /l/stor/b - - ref /l/stor/b - - ref /l/stor/c - -", "size 12288 1 0", "size 12288 1 1")
 
     comment("Pages of jobs, by number.")
     rows("new", *[f"make {job('map')}"] * 7, "cancel 4096", "cancel 12288", "cancel 20480", "page running 0 9", "page running 8192 2", "page running 8193 2", "page running 99999 2", "page done 0 2", "page done 20480 2", "page done 0 0", "page done 4097 9")

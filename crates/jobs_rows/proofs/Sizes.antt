@@ -1,10 +1,8 @@
 -- What a ready task is, and the bytes that it reads.
-use Rattle.std.proofs.Common.{◌≡◌, ℕ, suc, zero, ◌+◌, Bool, true, false, not, ◌&&◌, List, [], ◌∷◌, take, Option, Some, None, refl, ap, subst, ◌∙◌}
+use Rattle.std.proofs.Common.{◌≡◌, ℕ, Bool, true, false, not, ◌&&◌, List, [], Option, Some, None, refl, ap, subst, ◌∙◌}
 use Rattle.std.specs.Prelude.{IfSome}
 use Rattle.std.specs.List.{slice_get, sum_by}
 use Rattle.std.specs.Option.{option_and_then, option_map_or}
-use Rattle.std.proofs.lemmas.List.Sums.{sum_by_more}
-use Rattle.std.proofs.lemmas.Option.{get_or_from_slice_get, slice_get_within}
 use Rattle.mt_types.specs.declared.body.Body.{Body}
 use Rattle.mt_types.specs.declared.document.Phase.{Phase}
 use Rattle.mt_types.specs.declared.job.Item.{Item}
@@ -13,9 +11,8 @@ use Rattle.mt_types.specs.declared.job.Task.{Task}
 use Rattle.mt_model.specs.Feed.{feed}
 use Rattle.mt_model.specs.State.{job_at}
 use Rattle.mt_model.specs.Tasks.{is_committed, is_ready, is_running, is_task, is_task_of, items_read, may_run}
-use Rattle.mt_feeds.specs.Reading.{item_of, read_of}
+use Rattle.mt_feeds.specs.Reading.{item_of, task_items}
 use Rattle.mt_phase.specs.Orders.{input_size}
-use Rattle.jobs_rows.specs.Reads.{read_in, reads_of}
 
 -- the bytes of an item
 abbrev pub len_of : Item Body → ℕ
@@ -41,40 +38,16 @@ item_by job phase place (Some p) is = refl
 pub ready_item : (job : Job Body) (phase place : ℕ) → is_ready job phase place ≡ true → item_of phase place job ≡ slice_get (feed job phase) place
 ready_item job phase place is = item_by job phase place (slice_get job.document.phases phase) (ready_is_task job phase place is)
 
-read_by : (job : Job Body) (phase place k : ℕ) (o : Option Phase)
-    → option_and_then (λ (p : Phase). slice_get (items_read p.kind (feed job phase) place) k) o ≡ slice_get (option_map_or (λ (p : Phase). items_read p.kind (feed job phase) place) o []) k
-read_by job phase place k None = refl
-read_by job phase place k (Some p) = refl
-
-read_at : (o : Option (Job Body)) (phase place k : ℕ) → option_and_then (read_of phase place k) o ≡ slice_get (option_map_or (read_in phase place) o []) k
-read_at None phase place k = refl
-read_at (Some job) phase place k = read_by job phase place k (slice_get job.document.phases phase)
-
--- an item that a task reads is one of a list
-pub read_is : (jobs : List (Job Body)) (task : Task) (k : ℕ) → option_and_then (read_of task.phase task.place k) (job_at jobs task.job) ≡ slice_get (reads_of jobs task) k
-read_is jobs task k = read_at (job_at jobs task.job) task.phase task.place k
-
--- one item more
-pub sum_on : (items : List (Item Body)) (k : ℕ) (item : Item Body) → slice_get items k ≡ Some item → sum_by len_of (take (k + 1) items) ≡ sum_by len_of (take k items) + len_of item
-sum_on items k item is = sum_by_more len_of items k item (slice_get_within items k item is) ∙ ap (λ (i : Item Body). sum_by len_of (take k items) + len_of i) (get_or_from_slice_get items k item item is)
-
--- none more
-pub take_all : {X : Type 0} (xs : List X) (k : ℕ) → slice_get xs k ≡ None → take k xs ≡ xs
-take_all [] zero is = refl
-take_all [] (suc k) is = refl
-take_all (x ∷ xs) zero is = absurd (cc)
-take_all (x ∷ xs) (suc k) is = ap (λ l. x ∷ l) (take_all xs k is)
-
 size_by : (job : Job Body) (phase place n : ℕ) (o : Option Phase) → n ≡ sum_by len_of (option_map_or (λ (p : Phase). items_read p.kind (feed job phase) place) o [])
     → IfSome o (λ p. n ≡ input_size (λ b. b.len) p.kind (feed job phase) place)
 size_by job phase place n None is = tt
 size_by job phase place n (Some p) is = is
 
 -- the sum over what it reads is the size of its input
-pub size_is : (jobs : List (Job Body)) (task : Task) (job : Job Body) (n : ℕ) → job_at jobs task.job ≡ Some job → n ≡ sum_by len_of (reads_of jobs task)
+pub size_is : (jobs : List (Job Body)) (task : Task) (job : Job Body) (n : ℕ) → job_at jobs task.job ≡ Some job → n ≡ option_map_or (λ j. sum_by len_of (task_items task.phase task.place j)) (job_at jobs task.job) 0
     → IfSome (slice_get job.document.phases task.phase) (λ p. n ≡ input_size (λ b. b.len) p.kind (feed job task.phase) task.place)
 size_is jobs task job n there is =
-    size_by job task.phase task.place n (slice_get job.document.phases task.phase) (is ∙ ap (λ o. sum_by len_of (option_map_or (read_in task.phase task.place) o [])) there)
+    size_by job task.phase task.place n (slice_get job.document.phases task.phase) (is ∙ ap (λ o. option_map_or (λ j. sum_by len_of (task_items task.phase task.place j)) o 0) there)
 
 -- it is ready there
 pub ready_there : (jobs : List (Job Body)) (task : Task) (job : Job Body) → job_at jobs task.job ≡ Some job → IfSome (job_at jobs task.job) (λ j. is_ready j task.phase task.place ≡ true) → is_ready job task.phase task.place ≡ true

@@ -4,7 +4,8 @@ use Rattle.std.specs.Prelude.{All, IfSome, Ok}
 use Rattle.std.specs.Option.{option_map_or}
 use Rattle.std.proofs.lemmas.List.Elements.{All-weaker}
 use Rattle.mt_path.specs.AccountPath.{AccountPath, IsPath}
-use Rattle.mt_types.specs.WellMade.{IsDocument, IsWellMadeFate}
+use Rattle.std.specs.List.{AllByRecursion}
+use Rattle.mt_types.specs.WellMade.{IsDocument, IsWellMadeFate, IsWellMadeLine}
 use Rattle.mt_types.specs.declared.body.Body.{Body}
 use Rattle.mt_types.specs.declared.command.Archive.{Archive}
 use Rattle.mt_types.specs.declared.command.Command.{Command}
@@ -84,9 +85,9 @@ module _ (position : ℕ) (rows : Rows Body) (jobs : List (Job Body)) (law : Law
     unfolding allowed
     stays_made document moment made none is = stays left later (NewJob document moment) (Lawful-new_job size s law document moment made room none) is
 
-    pub stays_added : (job : ℕ) (lines : List InputLine) (moment : ℕ) → job_refusal (job_at jobs job) (add_inputs_refusal lines) ≡ None → state_of position left later ≡ change s (AddInputs job lines moment) → Lawful (state_of (position + 1) left later)
+    pub stays_added : (job : ℕ) (lines : List InputLine) (moment : ℕ) → AllByRecursion IsWellMadeLine lines → job_refusal (job_at jobs job) (add_inputs_refusal lines) ≡ None → state_of position left later ≡ change s (AddInputs job lines moment) → Lawful (state_of (position + 1) left later)
     unfolding allowed
-    stays_added job lines moment none is = stays left later (AddInputs job lines moment) (Lawful-add_inputs size s law job lines moment none) is
+    stays_added job lines moment made none is = stays left later (AddInputs job lines moment) (Lawful-add_inputs size s law job lines moment made none) is
 
     pub stays_ended : (job moment : ℕ) → job_refusal (job_at jobs job) input_refusal ≡ None → state_of position left later ≡ change s (EndInput job moment) → Lawful (state_of (position + 1) left later)
     unfolding allowed

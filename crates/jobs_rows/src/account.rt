@@ -1,6 +1,7 @@
 //! An account: its rows and its jobs after so many commands. It is lawful, since each change is asked for before it is made.
 ghost use Rattle.std.specs.Prelude.{◌≡◌, ◌<◌};
-ghost use Rattle.mt_types.specs.WellMade.{IsDocument, IsWellMadeFate};
+ghost use Rattle.std.specs.List.{AllByRecursion};
+ghost use Rattle.mt_types.specs.WellMade.{IsDocument, IsWellMadeFate, IsWellMadeLine};
 ghost use Rattle.mt_types.specs.declared.limits.TheConstants.{MOST_COMMANDS};
 ghost use Rattle.mt_model.specs.CommandStep.{outside_jobs};
 ghost use Rattle.mt_model.specs.Rows.{make_directory_refusal, put_refusal};
@@ -195,7 +196,8 @@ impl Account {
 
     /// Posts lines.
     pub fn add(self, alloc: Global, job: u64, lines: &[InputLine]) -> Changed
-        requires { self.count < MOST_COMMANDS }
+        requires room { self.count < MOST_COMMANDS }
+        requires lines { AllByRecursion IsWellMadeLine lines.now }
     {
         match self.jobs.may_add(job, lines) {
             Err(refusal) => Ok((self, Err(refusal))),

@@ -1,9 +1,11 @@
 //! Rows that do much at once, of which a script takes the time and the memory.
-ghost use Rattle.std.specs.Prelude.{◌<◌};
+ghost use Rattle.std.specs.Prelude.{◌<◌, IfOk};
+ghost use Rattle.std.specs.List.{AllByRecursion};
+ghost use Rattle.mt_types.specs.WellMade.{IsWellMadeLine};
 ghost use Rattle.mt_types.specs.declared.limits.TheConstants.{MOST_COMMANDS};
 
 use crate::account::{Account, Changed};
-use crate::words::{path_at, simple_document};
+use crate::words::{outputs, path_at, simple_document, task_at};
 use mt_base::Duplicate;
 use mt_rows::{Row, Stop};
 use mt_types::{Body, Fate, InputLine, MOST_COMMANDS, Path, Refusal, Sequence, Task};
@@ -24,7 +26,10 @@ fn taken(changed: Changed) -> Result<Account, Stop> {
 }
 
 // So many lines that name this object.
-fn lines_of(alloc: Global, path: &Path, count: u64) -> Result<Vec<InputLine>, AllocError> {
+fn lines_of(alloc: Global, path: &Path, count: u64) -> Result<Vec<InputLine>, AllocError>
+    ensures { IfOk result (λ v. AllByRecursion IsWellMadeLine v.items) }
+{
+    let _key = path.key();
     let mut lines = Vec::new(alloc);
     for _ in 0..count {
         lines.push(InputLine::Named(path.copy(alloc)?))?;
@@ -66,6 +71,15 @@ pub fn commit(account: Account, alloc: Global, row: &Row) -> Changed {
         account = commit_one(account, alloc, &task)?;
     }
     Ok((account, Ok(())))
+}
+
+/// `emitted JOB PHASE PLACE COUNT`: a task with so many outputs of a byte each.
+pub fn emit(account: Account, alloc: Global, row: &Row) -> Changed
+    requires { account.count < MOST_COMMANDS }
+{
+    let task = task_at(row, 1)?;
+    let fate = outputs(alloc, row.number(4)?.min(MOST) as usize)?;
+    account.commit(alloc, &task, &fate)
 }
 
 // One job with one input.

@@ -1,9 +1,7 @@
 //! The order of a ready task, by its parts.
-ghost use Rattle.std.specs.Prelude.{◌≡◌, true, IfOk, IfSome};
-ghost use Rattle.std.specs.List.{sum_by};
+ghost use Rattle.std.specs.Prelude.{◌≡◌, true, IfSome};
 ghost use Rattle.mt_model.specs.State.{job_at};
 ghost use Rattle.mt_model.specs.Tasks.{is_ready};
-ghost use Rattle.jobs_rows.specs.Reads.{reads_of};
 
 use crate::account::Account;
 use crate::words::task_at;
@@ -14,27 +12,6 @@ use mt_rows::{Row, Stop, put_escaped};
 use mt_spawn::Order;
 use mt_types::{Body, Task};
 use std::alloc::{AllocError, Global};
-
-/// So many items are added up at most.
-const MOST_ITEMS: usize = 1_000;
-
-// How many bytes a ready task reads.
-fn input_len(jobs: &Jobs<Body>, task: &Task) -> Result<u64, Stop>
-    requires { IfSome (job_at jobs.now task.now.job) (λ j. is_ready j task.now.phase task.now.place ≡ true) }
-    ensures { IfOk result (λ n. n ≡ sum_by (λ i. i.body.len) (reads_of jobs.now task.now)) }
-{
-    let mut total: u64 = 0;
-    for k in 0..MOST_ITEMS {
-        let Some(item) = jobs.read(task, k) else {
-            return Ok(total);
-        };
-        if item.body.len > u64::MAX - total {
-            return Err(Stop::NoSuchRow);
-        }
-        total += item.body.len;
-    }
-    Err(Stop::NoSuchRow)
-}
 
 fn put(out: &mut String, name: &str, bytes: &[u8]) -> Result<(), AllocError> {
     out.push_str(name)?;
@@ -78,7 +55,7 @@ fn put_parts(order: &Order, out: &mut String) -> Result<(), AllocError> {
 fn put_ready(alloc: Global, jobs: &Jobs<Body>, task: Task, out: &mut String) -> Result<(), Stop>
     requires { IfSome (job_at jobs.now task.job) (λ j. is_ready j task.phase task.place ≡ true) }
 {
-    let input = input_len(jobs, &task)?;
+    let input = jobs.input_len(&task)?;
     match jobs.get(task.job) {
         Some(job) if job.number < NUMBERS_END => {
             let order = order_of(alloc, "l", job, task, jobs.item(&task), input)?;
@@ -102,4 +79,19 @@ pub fn put_order(
     } else {
         Ok(out.push_str("not ready")?)
     }
+}
+
+/// `size JOB PHASE PLACE`: the number of items that a ready task reads, and their bytes.
+pub fn put_size(account: &Account, row: &Row, out: &mut String) -> Result<(), Stop> {
+    let task = task_at(row, 1)?;
+    let jobs = account.jobs();
+    if !jobs.is_ready(&task) {
+        return Ok(out.push_str("not ready")?);
+    }
+    write!(out, "{} items, ", jobs.read_count(&task))?;
+    match jobs.input_len(&task) {
+        Ok(len) => write!(out, "{len} bytes")?,
+        Err(AllocError) => out.push_str("too many bytes")?,
+    }
+    Ok(())
 }

@@ -1,9 +1,9 @@
 //! The rows that ask an account.
 use crate::account::Account;
 use crate::many;
-use crate::orders::put_order;
+use crate::orders::{put_order, put_size};
 use crate::words::{path_at, task_at, tasks};
-use mt_jobs::{Jobs, Stand};
+use mt_jobs::{JobStand, Jobs};
 use mt_rows::{Row, Stop, put_escaped};
 use mt_types::{Body, Entry, Item, Job, Outcome, Path, Sequence, Task, TraceEntry};
 use std::alloc::Global;
@@ -177,8 +177,8 @@ fn put_found(account: &Account, row: &Row, out: &mut String) -> Result<(), Stop>
 // `page running|done FROM LIMIT`
 fn put_page(alloc: Global, account: &Account, row: &Row, out: &mut String) -> Result<(), Stop> {
     let stand = match row.text(1)? {
-        "running" => Stand::Running,
-        _ => Stand::Done,
+        "running" => JobStand::Running,
+        _ => JobStand::Done,
     };
     let limit = row.number(3)?.min(MOST_ITEMS as u64) as usize;
     write!(out, "of {}:", account.jobs().count(stand))?;
@@ -195,6 +195,7 @@ pub fn answer(alloc: Global, account: &Account, row: &Row, out: &mut String) -> 
         "ready" => put_ready(alloc, account, row, out),
         "item" => put_one(alloc, account, row, out),
         "read" => put_read(alloc, account, row, out),
+        "size" => put_size(account, row, out),
         "order" => put_order(alloc, account, row, out),
         "page" => put_page(alloc, account, row, out),
         "looked" => many::look(account, row, out),

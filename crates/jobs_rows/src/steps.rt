@@ -89,6 +89,7 @@ fn changed(account: Account, alloc: Global, row: &Row) -> Changed
         "commit" => commit(account, alloc, row),
         "fail" => fail(account, alloc, row),
         "fed" => many::feed(account, alloc, row),
+        "emitted" => many::emit(account, alloc, row),
         "committed" => many::commit(account, alloc, row),
         "made" => many::make(account, alloc, row),
         _ => ended(account, alloc, row),
@@ -151,9 +152,16 @@ impl Rows for Steps {
     ) -> Result<(), Stop> {
         match row.text(0)? {
             "new" => self.clear(alloc),
-            "job" | "ready" | "item" | "read" | "order" | "page" | "at" | "looked" | "asked" => {
-                self.ask(alloc, row, out)
-            }
+            "job"
+            | "ready"
+            | "item"
+            | "read"
+            | "size"
+            | "order"
+            | "page"
+            | "at"
+            | "looked"
+            | "asked" => self.ask(alloc, row, out),
             _ => self.change(alloc, row, out),
         }
     }

@@ -1,7 +1,8 @@
 //! What the words of a row stand for. The login is `l`.
 ghost use Rattle.std.specs.Prelude.{◌<◌, IfOk, IfSome};
+ghost use Rattle.std.specs.List.{AllByRecursion};
 ghost use Rattle.mt_path.specs.AccountPath.{IsPath};
-ghost use Rattle.mt_types.specs.WellMade.{IsDocument, IsWellMadeFate, IsWellMadeRecord};
+ghost use Rattle.mt_types.specs.WellMade.{IsDocument, IsWellMadeFate, IsWellMadeLine, IsWellMadeRecord};
 
 use crate::account::body;
 use mt_jobdoc::{documents_are_documents, read};
@@ -81,15 +82,22 @@ pub fn simple_document(alloc: Global) -> Result<JobDocument, Stop>
 }
 
 // A line: a path of this account, or any other text.
-fn line(alloc: Global, text: &str) -> Result<InputLine, AllocError> {
+fn line(alloc: Global, text: &str) -> Result<InputLine, AllocError>
+    ensures { IfOk result IsWellMadeLine }
+{
     match Path::plain(alloc, "l", text.as_bytes()) {
-        Ok(path) => Ok(InputLine::Named(path)),
+        Ok(path) => {
+            let _key = path.key();
+            Ok(InputLine::Named(path))
+        }
         Err(_) => Ok(InputLine::Other(Text::from_str(alloc, text)?)),
     }
 }
 
 /// The lines from the third word on.
-pub fn lines(alloc: Global, row: &Row) -> Result<Vec<InputLine>, Stop> {
+pub fn lines(alloc: Global, row: &Row) -> Result<Vec<InputLine>, Stop>
+    ensures { IfOk result (λ v. AllByRecursion IsWellMadeLine v.items) }
+{
     let mut lines = Vec::new(alloc);
     for place in 2..row.len() {
         lines.push(line(alloc, row.text(place)?)?)?;
@@ -98,7 +106,9 @@ pub fn lines(alloc: Global, row: &Row) -> Result<Vec<InputLine>, Stop> {
 }
 
 /// So many lines that name nothing.
-pub fn many_lines(alloc: Global, count: u64) -> Result<Vec<InputLine>, Stop> {
+pub fn many_lines(alloc: Global, count: u64) -> Result<Vec<InputLine>, Stop>
+    ensures { IfOk result (λ v. AllByRecursion IsWellMadeLine v.items) }
+{
     let mut lines = Vec::new(alloc);
     for _ in 0..count.min(MOST_LINES) {
         lines.push(line(alloc, "x")?)?;
@@ -164,6 +174,24 @@ pub fn good(alloc: Global, row: &Row) -> Result<Fate<Body>, Stop>
     let mut records = Vec::new(alloc);
     for k in 1..count {
         records.push(record(alloc, row, 4 * k)?)?;
+    }
+    Ok(Fate::Good(Sequence::from_vec(records)))
+}
+
+/// So many outputs of a byte each, without a place.
+pub fn outputs(alloc: Global, count: usize) -> Result<Fate<Body>, Stop>
+    ensures { IfOk result IsWellMadeFate }
+{
+    if count > MOST_RECORDS {
+        return Err(Stop::NoSuchRow);
+    }
+    let mut records = Vec::new(alloc);
+    for _k in 0..count {
+        records.push(TaskRecord::Emit {
+            place: None,
+            reducer: None,
+            body: body(1),
+        })?;
     }
     Ok(Fate::Good(Sequence::from_vec(records)))
 }

@@ -3,6 +3,7 @@ ghost use Rattle.std.specs.Prelude.{◌≤◌, IfOk, length};
 
 use mt_base::{Bytes, Sequence};
 use mt_spawn::{FileSize, Left, Part, Sizes};
+use mt_types::{LARGEST_OUTPUT, LONGEST_STDERR};
 use std::alloc::{AllocError, Global};
 use std::fs::{self, DirEntry, File};
 use std::io;
@@ -13,12 +14,6 @@ use std::rt::Files;
 
 /// The status of a child that a signal ended.
 const BY_SIGNAL: u32 = 255;
-
-/// How many bytes of standard error are told, at most.
-const MOST_ERROR: usize = 1_024;
-
-/// How many bytes a task may write in all: standard output, and the files of its records.
-const MOST_WRITTEN: u64 = 16_777_216;
 
 // How long the file of a path is. What is no file counts as missing, and so as empty.
 fn len_of<R: Files>(rt: &R, path: &str) -> io::Result<u64> {
@@ -35,7 +30,7 @@ fn read_front(file: &File, into: &mut [u8]) -> io::Result<usize>
     ensures { IfOk result (λ n. n ≤ length into.old) }
 {
     let mut at = 0;
-    'read: for _ in 0..MOST_ERROR {
+    'read: for _ in 0..LONGEST_STDERR {
         match file.read_at(&mut into[at..], at as u64)? {
             0 => break 'read,
             count => at += count,
@@ -47,7 +42,7 @@ fn read_front(file: &File, into: &mut [u8]) -> io::Result<usize>
 // The front of standard error.
 fn error_in<R: Files<File = File>>(rt: &R, alloc: Global, folder: &str) -> io::Result<Bytes> {
     let path = format!(in alloc; "{folder}/err")?;
-    let mut front = [0; MOST_ERROR];
+    let mut front = [0; LONGEST_STDERR];
     if len_of(rt, path.as_str())? == 0 {
         return Ok(Bytes::from_slice(alloc, b"")?);
     }
@@ -116,7 +111,7 @@ fn sizes_of(out: u64, files: Vec<FileSize>) -> Sizes {
     for file in &files {
         total = total.saturating_add(file.len);
     }
-    if total > MOST_WRITTEN {
+    if total > LARGEST_OUTPUT {
         Sizes::TooLarge { total }
     } else {
         Sizes::Whole {

@@ -1,8 +1,9 @@
 //! Laws of commands as bytes.
-ghost use Rattle.std.specs.Prelude.{◌≡◌, ◌≤◌, ◌++◌, false, List, ℕ, length, IfOk, IfErr};
+ghost use Rattle.std.specs.Prelude.{◌≡◌, ◌≤◌, ◌*◌, ◌++◌, ◌∷◌, ◌&&◌, ◌==◌, false, nat_le, List, ℕ, length, IfOk, IfErr};
 ghost use Rattle.mt_types.specs.declared.body.Body.{Body};
 ghost use Rattle.mt_types.specs.declared.command.Command.{Command};
 ghost use Rattle.mt_codec.specs.Spelling.{HasSpelling, IsWithinLimits, spelling, undigested};
+ghost use Rattle.mt_codec.specs.Readers.{is_few_assets, is_few_fields, is_few_parts, is_few_records, is_phases, is_short_stderr};
 ghost use Rattle.mt_codec.specs.Pieces.{is_piece, size_bound, spelled_size};
 ghost use Rattle.mt_types.specs.Values.{command_with};
 ghost use Rattle.mt_types.specs.WellMade.{IsWellMade};
@@ -60,4 +61,16 @@ pub fn sizes_are_read()
 /// No command is a piece.
 pub fn no_command_is_a_piece()
     ensures { (c : Command Body) → is_piece (spelling c) ≡ false }
+{}
+
+/// What the format counts has these bounds: components of a path, fields of metadata, phases, assets of a phase, records of a task, bytes of
+/// standard error, and bytes of a piece.
+pub fn constants_are()
+    ensures parts { (n : ℕ) → is_few_parts n ≡ nat_le (2 * n) 1024 }
+    ensures fields { (n : ℕ) → is_few_fields n ≡ nat_le n 100 }
+    ensures phases { (n : ℕ) → is_phases n ≡ (nat_le 1 n && nat_le n 16) }
+    ensures assets { (n : ℕ) → is_few_assets n ≡ nat_le n 64 }
+    ensures records { (n : ℕ) → is_few_records n ≡ nat_le n 4095 }
+    ensures stderr { (n : ℕ) → is_short_stderr n ≡ nat_le n 1024 }
+    ensures piece { (mark : ℕ) (bytes : List ℕ) → is_piece (mark ∷ bytes) ≡ ((mark == 0) && (nat_le 1 (length bytes) && nat_le (length bytes) 65536)) }
 {}

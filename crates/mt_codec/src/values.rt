@@ -117,9 +117,9 @@ pub fn document(alloc: Global, cursor: &mut Cursor) -> Result<JobDocument, Decod
     Ok(JobDocument { name, phases })
 }
 
-// A posted line.
+/// A posted line.
 #[tactic(auto, unfolding(crate::specs::Readers::line_at))]
-fn line(alloc: Global, cursor: &mut Cursor) -> Result<InputLine, DecodeError>
+pub fn line(alloc: Global, cursor: &mut Cursor) -> Result<InputLine, DecodeError>
     ensures { Gives result cursor.new (line_at cursor.old) }
 {
     match byte(cursor)? {
@@ -191,9 +191,9 @@ fn keep(alloc: Global, cursor: &mut Cursor) -> Result<TaskRecord<Body>, DecodeEr
     Ok(TaskRecord::Keep { place, body })
 }
 
-// A record of a task.
+/// A record of a task.
 #[tactic(auto, unfolding(crate::specs::Readers::record_at))]
-fn record_of(alloc: Global, cursor: &mut Cursor) -> Result<TaskRecord<Body>, DecodeError>
+pub fn record_of(alloc: Global, cursor: &mut Cursor) -> Result<TaskRecord<Body>, DecodeError>
     ensures { Gives result cursor.new (record_at cursor.old) }
 {
     match byte(cursor)? {
@@ -226,8 +226,8 @@ impl Spelled for TaskRecord<Body> {
     }
 }
 
-// Why a task failed.
-fn failure(cursor: &mut Cursor) -> Result<TaskFailure, DecodeError>
+/// Why a task failed.
+pub fn failure(cursor: &mut Cursor) -> Result<TaskFailure, DecodeError>
     ensures { Gives result cursor.new (named failure_numbered byte_at cursor.old) }
 {
     match byte(cursor)? {
@@ -240,8 +240,8 @@ fn failure(cursor: &mut Cursor) -> Result<TaskFailure, DecodeError>
     }
 }
 
-// A front of standard error.
-fn stderr(alloc: Global, cursor: &mut Cursor) -> Result<Bytes, DecodeError>
+/// A front of standard error.
+pub fn stderr(alloc: Global, cursor: &mut Cursor) -> Result<Bytes, DecodeError>
     ensures { Gives result cursor.new (sized (tested is_short_stderr (number_at w16)) cursor.old) }
 {
     let n = two(cursor)? as usize;
@@ -375,9 +375,9 @@ pub fn put_document(out: &mut Vec<u8>, document: &JobDocument) -> Result<(), All
     put_all(out, document.phases.as_slice())
 }
 
-// A posted line.
+/// A posted line.
 #[tactic(auto, unfolding(crate::specs::Spelling::line_spelling))]
-fn put_line(out: &mut Vec<u8>, line: &InputLine) -> Result<(), AllocError>
+pub fn put_line(out: &mut Vec<u8>, line: &InputLine) -> Result<(), AllocError>
     requires { FitsLine false line.now }
     ensures { OnOk result (out.new.items ≡ out.old.items ++ line_spelling line.now) }
 {
@@ -403,9 +403,9 @@ pub fn put_lines(out: &mut Vec<u8>, lines: &[InputLine]) -> Result<(), AllocErro
     put_all(out, lines)
 }
 
-// A record of a task.
+/// A record of a task.
 #[tactic(auto, unfolding(crate::specs::Spelling::record_spelling))]
-fn put_record(out: &mut Vec<u8>, record_of: &TaskRecord<Body>) -> Result<(), AllocError>
+pub fn put_record(out: &mut Vec<u8>, record_of: &TaskRecord<Body>) -> Result<(), AllocError>
     ensures { OnOk result (out.new.items ≡ out.old.items ++ record_spelling record_of.now) }
 {
     match record_of {
@@ -438,8 +438,8 @@ fn put_kept(out: &mut Vec<u8>, place: &Path, body: &Body) -> Result<(), AllocErr
     put_body(out, body)
 }
 
-// The number of a failure.
-fn failure_code(failure: TaskFailure) -> u8
+/// The number of a failure.
+pub fn failure_code(failure: TaskFailure) -> u8
     ensures { result ≡ failure_number failure }
 {
     match failure {

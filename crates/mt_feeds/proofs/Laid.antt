@@ -13,7 +13,7 @@ use Rattle.std.proofs.lemmas.Nat.{mod_below}
 use Rattle.mt_types.specs.declared.job.Item.{Item}
 use Rattle.mt_model.specs.Tasks.{reducer_of, share}
 use Rattle.mt_model.proofs.Maps.{length-map, map-append}
-use Rattle.mt_feeds.specs.Kept.{all_shares, places_read}
+use Rattle.mt_feeds.specs.Kept.{all_shares, share_numbers}
 use Rattle.mt_feeds.specs.Opening.{with_place_read}
 use Rattle.mt_feeds.proofs.Feeds.{enumerate_push}
 use Rattle.mt_feeds.proofs.Lookups.{reads_through, slice_get_behind}
@@ -55,7 +55,7 @@ list_pushed lists r place f new less is more =
     ∙ ap (set (map (λ (w : Vec ℕ Global). w.items) lists) r) (more ∙ ap (λ l. l ++ place ∷ []) (sym (read_items lists r f less is)))
 
 -- without an item each reducer has none
-none_from : (B : Type 0) (a n count : ℕ) → replicate n [] ≡ map (places_read {B = B} [] count) (range_with_len a n)
+none_from : (B : Type 0) (a n count : ℕ) → replicate n [] ≡ map (share_numbers {B = B} [] count) (range_with_len a n)
 none_from B a zero count = refl
 none_from B a (suc n) count = ap (λ (l : List (List ℕ)). [] ∷ l) (none_from B (a + 1) n count)
 
@@ -70,14 +70,14 @@ module _ {B : Type 0} where
   pushed_case items i n m same false = refl
 
   -- a place is added to the list of its reducer, and to no other
-  places_push : (items : List (Item B)) (i : Item B) (count reducer : ℕ) → places_read (items ++ i ∷ []) count reducer ≡ places_read items count reducer ++ cond (reducer_of (length items, i) % count == reducer) (length items ∷ []) []
+  places_push : (items : List (Item B)) (i : Item B) (count reducer : ℕ) → share_numbers (items ++ i ∷ []) count reducer ≡ share_numbers items count reducer ++ cond (reducer_of (length items, i) % count == reducer) (length items ∷ []) []
   places_push items i count reducer =
       let on : 0 + length items ≡ length items = omega arith in
       let test : ℕ × Item B → Bool = λ p. reducer_of p % count == reducer in
       ap (λ l. map (λ (p : ℕ × Item B). p.0) (filter test l)) (enumerate_push 0 items i ∙ ap {A = ℕ} {B = List (ℕ × Item B)} (λ k. enumerate_from 0 items ++ (k, i) ∷ []) on)
       ∙ ap (map (λ (p : ℕ × Item B). p.0)) (filter-append test (enumerate_from 0 items) ((length items, i) ∷ []))
       ∙ map-append (λ (p : ℕ × Item B). p.0) (filter test (enumerate_from 0 items)) (filter test ((length items, i) ∷ []))
-      ∙ ap (λ l. places_read items count reducer ++ l) (pushed_case items i (length items) (length items) refl (test (length items, i)))
+      ∙ ap (λ l. share_numbers items count reducer ++ l) (pushed_case items i (length items) (length items) refl (test (length items, i)))
 
   other_case : (items : List (Item B)) (i : Item B) (count reducer r : ℕ) (b : Bool) → reducer == r ≡ b → (r ≡ 0 + reducer → ⊥) → cond b (length items ∷ []) [] ≡ []
   other_case items i count reducer r true at off = let same : reducer ≡ r = eqb-true reducer r at in absurd (off (omega (arith, same)))
@@ -88,12 +88,12 @@ module _ {B : Type 0} where
       let reducer : ℕ = reducer_of (length items, i) % count in
       let less : reducer < count = mod_below (reducer_of (length items, i)) count some in
       let here : 0 + reducer ≡ reducer = omega arith in
-      set_range (places_read items count) (places_read (items ++ i ∷ []) count) 0 count reducer less
-      (λ r off. places_push items i count r ∙ ap (λ l. places_read items count r ++ l) (other_case items i count reducer r (reducer == r) refl off) ∙ append-nil (places_read items count r))
+      set_range (share_numbers items count) (share_numbers (items ++ i ∷ []) count) 0 count reducer less
+      (λ r off. places_push items i count r ∙ ap (λ l. share_numbers items count r ++ l) (other_case items i count reducer r (reducer == r) refl off) ∙ append-nil (share_numbers items count r))
       ∙ ap (λ l. set (all_shares items count) reducer l)
-      (ap (places_read (items ++ i ∷ []) count) here ∙ places_push items i count reducer
-      ∙ ap (λ b. places_read items count reducer ++ cond b (length items ∷ []) []) (eq-eqb reducer reducer refl)
-      ∙ ap (λ l. l ++ length items ∷ []) (sym (get_range (places_read items count) 0 count reducer [] less ∙ ap (places_read items count) here)))
+      (ap (share_numbers (items ++ i ∷ []) count) here ∙ places_push items i count reducer
+      ∙ ap (λ b. share_numbers items count reducer ++ cond b (length items ∷ []) []) (eq-eqb reducer reducer refl)
+      ∙ ap (λ l. l ++ length items ∷ []) (sym (get_range (share_numbers items count) 0 count reducer [] less ∙ ap (share_numbers items count) here)))
 
   -- ---- what is read by them
 
@@ -117,13 +117,13 @@ module _ {B : Type 0} where
       ∙ subst (λ n. map (slice_get ((front ++ i ∷ []) ++ rest)) (map (λ p. p.0) (filter test (enumerate_from n rest))) ≡ map (λ x. Some x) (map (λ p. p.1) (filter test (enumerate_from n rest)))) (long_push front i) (places_from test (front ++ i ∷ []) rest))
 
   -- a reducer reads the items at its places
-  pub share_reads : (items : List (Item B)) (count reducer k : ℕ) → option_and_then (slice_get items) (slice_get (places_read items count reducer) k) ≡ slice_get (share items count reducer) k
-  share_reads items count reducer k = reads_through (slice_get items) (places_read items count reducer) (share items count reducer) k (places_from (λ p. reducer_of p % count == reducer) [] items)
+  pub share_reads : (items : List (Item B)) (count reducer k : ℕ) → option_and_then (slice_get items) (slice_get (share_numbers items count reducer) k) ≡ slice_get (share items count reducer) k
+  share_reads items count reducer k = reads_through (slice_get items) (share_numbers items count reducer) (share items count reducer) k (places_from (λ p. reducer_of p % count == reducer) [] items)
 
   -- there are as many lists as reducers
   pub laid_count : (items : List (Item B)) (count : ℕ) (lists : List (Vec ℕ Global)) → map (λ w. w.items) lists ≡ all_shares items count → length lists ≡ count
   laid_count items count lists same =
-      sym (length-map (λ (w : Vec ℕ Global). w.items) lists) ∙ ap length same ∙ length-map (places_read items count) (range_with_len 0 count) ∙ length-range_with_len 0 count
+      sym (length-map (λ (w : Vec ℕ Global). w.items) lists) ∙ ap length same ∙ length-map (share_numbers items count) (range_with_len 0 count) ∙ length-range_with_len 0 count
 
   -- the next item of a feed
   pub shares_take : (items : List (Item B)) (place : ℕ) (item : Item B) (count : ℕ) → 0 < count → slice_get items place ≡ Some item → all_shares (take (place + 1) items) count ≡ with_place_read count place item (all_shares (take place items) count)
@@ -134,10 +134,10 @@ module _ {B : Type 0} where
       ap (λ l. all_shares l count) more ∙ shares_push (take place items) item count some ∙ ap (λ n. with_place_read count n item (all_shares (take place items) count)) long
 
   -- the places of one reducer, among those of all
-  pub share_at : (items : List (Item B)) (count reducer : ℕ) → reducer < count → slice_get (all_shares items count) reducer ≡ Some (places_read items count reducer)
-  share_at items count reducer less = by 0 count reducer less ∙ (let here : 0 + reducer ≡ reducer = omega arith in ap (λ r. Some (places_read items count r)) here)
+  pub share_at : (items : List (Item B)) (count reducer : ℕ) → reducer < count → slice_get (all_shares items count) reducer ≡ Some (share_numbers items count reducer)
+  share_at items count reducer less = by 0 count reducer less ∙ (let here : 0 + reducer ≡ reducer = omega arith in ap (λ r. Some (share_numbers items count r)) here)
     where
-      by : (a n k : ℕ) → k < n → slice_get (map (places_read items count) (range_with_len a n)) k ≡ Some (places_read items count (a + k))
+      by : (a n k : ℕ) → k < n → slice_get (map (share_numbers items count) (range_with_len a n)) k ≡ Some (share_numbers items count (a + k))
       by a zero k less = absurd (omega arith)
-      by a (suc n) zero less = let here : a ≡ a + 0 = omega arith in ap (λ r. Some (places_read items count r)) here
-      by a (suc n) (suc k) less = let on : a + 1 + k ≡ a + suc k = omega arith in by (a + 1) n k (omega (arith, less)) ∙ ap (λ r. Some (places_read items count r)) on
+      by a (suc n) zero less = let here : a ≡ a + 0 = omega arith in ap (λ r. Some (share_numbers items count r)) here
+      by a (suc n) (suc k) less = let on : a + 1 + k ≡ a + suc k = omega arith in by (a + 1) n k (omega (arith, less)) ∙ ap (λ r. Some (share_numbers items count r)) on

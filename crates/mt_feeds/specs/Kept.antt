@@ -41,12 +41,12 @@ module _ {B : Type 0} where
   -- ---- shares
 
   -- the places that a reducer reads
-  abbrev pub places_read : List (Item B) → ℕ → ℕ → List ℕ
-  places_read items count reducer = map (λ p. p.0) (share_places items count reducer)
+  abbrev pub share_numbers : List (Item B) → ℕ → ℕ → List ℕ
+  share_numbers items count reducer = map (λ p. p.0) (share_places items count reducer)
 
   -- those that each reducer reads
   abbrev pub all_shares : List (Item B) → ℕ → List (List ℕ)
-  all_shares items count = map (places_read items count) (range_with_len 0 count)
+  all_shares items count = map (share_numbers items count) (range_with_len 0 count)
 
   -- of a reduce phase that has begun, all of them; else nothing
   abbrev pub shares_in : Bool → PhaseKind → List (Item B) → List (List ℕ)

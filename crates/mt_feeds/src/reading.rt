@@ -1,6 +1,6 @@
 //! What a task reads.
-ghost use Rattle.std.specs.Prelude.{◌≡◌, slice_get};
-ghost use Rattle.std.specs.Option.{option_and_then};
+ghost use Rattle.std.specs.Prelude.{◌≡◌, length, slice_get};
+ghost use Rattle.std.specs.Option.{option_and_then, option_map_or};
 
 use crate::kept::Kept;
 use mt_types::{Item, PhaseKind};
@@ -15,11 +15,21 @@ fn place_in(shares: &[Vec<usize>], reducer: u64, k: usize) -> Option<usize>
     }
 }
 
+// The number of places that a reducer reads.
+fn count_in(shares: &[Vec<usize>], reducer: u64) -> usize
+    ensures { result ≡ option_map_or (λ l. length l.items) (slice_get shares.now reducer) 0 }
+{
+    match shares.get(reducer as usize) {
+        Some(places) => places.len(),
+        None => 0,
+    }
+}
+
 impl<B> Kept<B> {
-    ghost use Rattle.std.specs.Prelude.{◌≡◌, true, option_copied};
+    ghost use Rattle.std.specs.Prelude.{◌≡◌, true, length, option_copied};
     ghost use Rattle.mt_model.specs.Tasks.{is_ready};
     ghost use Rattle.mt_feeds.specs.Kept.{IsKept};
-    ghost use Rattle.mt_feeds.specs.Reading.{read_of};
+    ghost use Rattle.mt_feeds.specs.Reading.{read_of, task_items};
 
     /// One of the items that a ready task reads, counted from 0, by look-ups; none from their number on.
     pub fn read(&self, phase: u32, place: u64, k: usize) -> Option<&Item<B>>
@@ -46,6 +56,21 @@ impl<B> Kept<B> {
                 Some(found) => self.item(phase, found as u64),
                 None => None,
             },
+        }
+    }
+
+    /// The number of items that a ready task reads, by a look-up.
+    pub fn read_count(&self, phase: u32, place: u64) -> usize
+        requires kept { IsKept self.now }
+        requires ready { is_ready self.now.job phase place ≡ true }
+        ensures { result ≡ length (task_items phase place self.now.job) }
+    {
+        let Some(of_phase) = self.job.document.phases.as_slice().get(phase as usize) else {
+            return 0;
+        };
+        match of_phase.kind {
+            PhaseKind::Map => 1,
+            PhaseKind::Reduce { count: _ } => count_in(&self.shares[phase as usize], place),
         }
     }
 }

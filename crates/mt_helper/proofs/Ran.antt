@@ -47,7 +47,7 @@ piped place reducer status was now s = record {
   whole = s.whole;
   added = put_goes status (record_bytes (record { head = head.Emit place reducer; body = s.input })) was.files now.files s.ends s.put;
   late = λ e. absurd (cc);
-  taken = put_taken status (record_bytes (record { head = head.Emit place reducer; body = s.input })) was.files now.files s.put;
+  taken = λ e. (put_taken status (record_bytes (record { head = head.Emit place reducer; body = s.input })) was.files now.files s.put e, λ w. s.early e);
   count = s.count;
   ends = s.ends;
 }
@@ -65,7 +65,7 @@ teed place status was now s = record {
   whole = s.whole;
   added = put_goes status (record_bytes (record { head = head.Keep place; body = s.input })) was.files now.files s.ends s.put;
   late = λ e. absurd (cc);
-  taken = put_taken status (record_bytes (record { head = head.Keep place; body = s.input })) was.files now.files s.put;
+  taken = λ e. (put_taken status (record_bytes (record { head = head.Keep place; body = s.input })) was.files now.files s.put e, λ w. s.early e);
   count = s.count;
   ends = s.ends;
 }
@@ -104,7 +104,7 @@ catted names status left got files files' r w f f' made = record {
   whole = λ d. refl;
   added = made.added;
   late = λ e. absurd (cc);
-  taken = made.taken;
+  taken = λ e. (made.taken e, λ w. refl);
   count = making_count status (ends left got files r w f) (ends left got files' r w f') made.ends made.fault;
   ends = making-runs status made.ends;
 }
@@ -223,7 +223,7 @@ splitted count rule status left left' got files files' r r' w f f' s = record {
   whole = λ d. refl;
   added = s.added;
   late = λ e. s.late;
-  taken = s.taken;
+  taken = λ e. (s.taken e, λ w. absurd (cc));
   count = shared_count status (ends left got files r w f) (ends left' got files' r' w f') s.source s.spool s.sink;
   ends = s.ends;
 }

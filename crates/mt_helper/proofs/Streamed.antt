@@ -69,6 +69,9 @@ cut-runs BadPath cut = cut
 cut-runs NumbersTaken cut = tt
 cut-runs OutOfMemory cut = tt
 
+not_taken : (status : Status) → IsCut status → status ≡ NumbersTaken → ⊥
+not_taken status cut e = subst IsCut e cut
+
 pub not_done : (status : Status) → IsCut status → status ≡ Done → ⊥
 not_done status cut e = subst IsCut e cut
 
@@ -87,6 +90,7 @@ module _ (head : List ℕ) (copies : Bool) where
     front = no_front (copied_of copies []);
     whole = λ e. absurd (not_all e);
     put = put;
+    early = λ e. refl;
     count = count;
     ends = runs;
   }
@@ -146,6 +150,7 @@ module _ (head : List ℕ) (copies : Bool) (n : ℕ) (left got : Option (List �
       free = free;
       put = grown n head front.moved.added files files' now.files (free_of n files free) begun front.moved.add;
     };
+    early = λ e. absurd (not_taken status front.cut e);
     count = later_count status (ends left got files r w s) (ends left got files' r' w' s') now later front.count;
     ends = cut-runs status front.cut;
   }
@@ -176,6 +181,7 @@ module _ (head : List ℕ) (copies : Bool) (n : ℕ) (left got : Option (List �
       free = free;
       put = grown n (head ++ all.input) cut.written files mid.files now.files (free_of n files free) (grown n head all.input files files' mid.files (free_of n files free) begun all.moved.add) cut.grew;
     };
+    early = λ e. absurd (cc);
     count = rose;
     ends = tt;
   }
@@ -201,6 +207,7 @@ module _ (head : List ℕ) (copies : Bool) (n : ℕ) (left got : Option (List �
       put = grown n (head ++ all.input) (end_bytes (length all.input)) files mid.files now.files (free_of n files free) (grown n head all.input files files' mid.files (free_of n files free) begun all.moved.add)
           (added ∙ ap (λ (k : ℕ). option_map (with_bytes n (end_bytes k)) mid.files) all.counted);
     };
+    early = λ e. absurd (cc);
     count = tt;
     ends = tt;
   }

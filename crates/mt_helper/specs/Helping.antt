@@ -121,7 +121,8 @@ pub record Ran (tool : Tool) (status : Status) (was now : Ends) : Type 0 where
   -- the records, or the first of them
   pub added : Goes was.files (AddedBy status (map record_bytes (tool_records tool input))) now.files
   pub late : waits tool ≡ true → HasEnded now ⊎ (now.files ≡ was.files)
-  pub taken : status ≡ NumbersTaken → IfSome now.files AreTaken
+  -- a tool that makes its records as it reads finds all numbers taken before it reads
+  pub taken : status ≡ NumbersTaken → IfSome now.files AreTaken × (waits tool ≡ false → input ≡ [])
   pub count : HasCount status was now
   pub ends : IsRunEnd status
 

@@ -110,5 +110,6 @@ pub record Streamed (head : List ℕ) (copies : Bool) (status : Status) (was now
   pub front : IsPrefixOf copied (copied_of copies input)
   pub whole : status ≡ Done → copied ≡ copied_of copies input
   pub put : Puts was.files (stream_bytes head input) (put_by status) now.files
+  pub early : status ≡ NumbersTaken → input ≡ []
   pub count : HasCount status was now
   pub ends : IsRunEnd status

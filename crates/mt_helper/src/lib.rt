@@ -17,5 +17,6 @@ mod tool;
 mod words;
 
 pub use helping::helper;
+pub use limits::constants_are;
 pub use status::{Refusal, Status};
 pub use tool::Tool;

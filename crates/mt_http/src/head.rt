@@ -101,7 +101,7 @@ fn take_piece(head: &mut Vec<u8>, piece: &[u8]) -> Taken
 
 /// What became of a head.
 #[derive(Drop)]
-pub(crate) enum HeadRead {
+pub enum HeadRead {
     /// A head, with the empty line that ends it. The source stands behind it.
     Whole(Vec<u8>),
     /// The source ended before a head began.
@@ -110,7 +110,9 @@ pub(crate) enum HeadRead {
     Truncated,
     /// No head ends within the limit.
     TooLong,
+    /// The source failed.
     SourceFault,
+    /// Out of memory.
     Memory,
 }
 
@@ -126,7 +128,7 @@ fn ended(head: &[u8]) -> HeadRead
 
 /// Reads the head at the front of a source, and the empty lines before it. A head takes 1,024 bytes of memory, and more
 /// in proportion to its length.
-pub(crate) fn find_head<S: Source>(alloc: Global, source: &mut S) -> HeadRead
+pub fn find_head<S: Source>(alloc: Global, source: &mut S) -> HeadRead
     ensures stays { S.source_stays source.old source.new }
     ensures read { ReadsHead (S.left source.old) (S.read_faults source.old)
         result (S.left source.new) (S.read_faults source.new) }

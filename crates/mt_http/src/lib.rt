@@ -24,6 +24,7 @@ mod stream;
 
 pub use body::read_body;
 pub use framing::Framing;
+pub use head::{HeadRead, find_head};
 pub use message::{Ending, Head, Message, MessageEnd};
 pub use mt_types::{Field, Fields, Reply, ReplyBody};
 pub use options::{closes, limit_of, wants_interim};

@@ -1,6 +1,8 @@
 -- Identifiers as text: version 8 UUIDs (RFC 9562, section 5.8) that hold a kind and a number.
-use Rattle.std.specs.Prelude.{◌≡◌, ℕ, ◌+◌, ◌*◌, ◌^◌, ◌%◌, ◌<◌, ◌≤◌, ◌⊎◌, List, Option, Some, None, option_and_then, ◌&&◌, nat_le, nat_lt, bytes_eq, if◌then◌else◌}
+use Rattle.std.specs.Prelude.{◌≡◌, ℕ, Bool, ◌+◌, ◌*◌, ◌^◌, ◌%◌, ◌<◌, ◌≤◌, ◌⊎◌, List, Option, Some, None, option_and_then, ◌&&◌, nat_le, nat_lt, bytes_eq, if◌then◌else◌}
 use Rattle.std.specs.Int.{IsInRange, w128, to_be_bytes, from_be_bytes}
+use Rattle.std.specs.Cmp.Lexicographic.{slice_cmp}
+use Rattle.std.specs.Ordering.{is_le, nat_cmp}
 use Rattle.uuid.specs.Text.{hyphen, hyphenated_text, lower, parsed}
 
 -- 1 names an object, 2 a job, 3 an output and 4 an upload
@@ -35,3 +37,7 @@ number_in kind text bits =
 -- the number of the identifier of this kind that the text is, if it is one
 unfoldable pub identifier_number : ℕ → List ℕ → Option ℕ
 identifier_number kind text = option_and_then (number_in kind text) (parsed text)
+
+-- the text of the identifier with this kind and number does not stand before the marker, by bytes
+abbrev pub is_from : ℕ → List ℕ → ℕ → Bool
+is_from kind marker number = is_le (slice_cmp nat_cmp marker (identifier_text kind number))

@@ -1,6 +1,6 @@
 //! Identifiers: version 8 UUIDs of RFC 9562 that hold a kind and a number.
-ghost use Rattle.std.specs.Prelude.{◌≡◌, ◌<◌, ◌^◌, ◌↔◌, ℕ, All, IsAscii, IsTrue, Some};
-ghost use Rattle.mt_ident.specs.Identifiers.{IsKind, IsIdentifier, IsIdentifierByte, identifier_text, identifier_number};
+ghost use Rattle.std.specs.Prelude.{◌≡◌, ◌<◌, ◌^◌, ◌↔◌, ℕ, All, IsAscii, IsTrue, MatchOption, Some, false, nat_le, not};
+ghost use Rattle.mt_ident.specs.Identifiers.{IsKind, IsIdentifier, IsIdentifierByte, identifier_text, identifier_number, is_from};
 
 use mt_base::NUMBERS_END;
 use std::str;
@@ -47,6 +47,34 @@ pub fn uuid_number(kind: u8, text: &[u8]) -> Option<u64>
     } else {
         None
     }
+}
+
+/// The least number whose identifier of this kind doesn't stand before a marker, in the order of their bytes: those that don't are it and
+/// all above it. `None` where each stands before it. At most 62 texts are made.
+pub fn least_number(kind: u8, marker: &[u8]) -> Option<u64>
+    requires { IsKind kind }
+    ensures { MatchOption result ((m : ℕ) → m < 2 ^ 62 → is_from kind marker.now m ≡ false) (λ n. (n < 2 ^ 62) × ((m : ℕ) → m < 2 ^ 62 → is_from kind marker.now m ≡ nat_le n m)) }
+{
+    let mut low = 0;
+    let mut high = NUMBERS_END;
+    while low < high {
+        let middle = low + (high - low) / 2;
+        if is_before(kind, middle, marker) {
+            low = middle + 1;
+        } else {
+            high = middle;
+        }
+    }
+    if low < NUMBERS_END { Some(low) } else { None }
+}
+
+// Whether an identifier stands before a marker.
+fn is_before(kind: u8, number: u64, marker: &[u8]) -> bool
+    requires kind { IsKind kind }
+    requires number { number < 2 ^ 62 }
+    ensures { result ≡ not (is_from kind marker.now number) }
+{
+    uuid_text(kind, number).as_slice() < marker
 }
 
 // Whether a text is that of this identifier.

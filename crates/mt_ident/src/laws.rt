@@ -3,7 +3,10 @@ ghost use Rattle.std.specs.Prelude.{◌≡◌, ◌<◌, ◌≤◌, ◌^◌, ℕ,
 ghost use Rattle.httpdate.specs.Calendar.{IsCivilDate, days_from_civil};
 ghost use Rattle.mt_ident.specs.declared.dates.CivilDate.{CivilDate};
 ghost use Rattle.mt_ident.specs.Dates.{date_of_day};
-ghost use Rattle.mt_ident.specs.Identifiers.{IsKind};
+ghost use Rattle.std.specs.Cmp.Lexicographic.{slice_cmp};
+ghost use Rattle.std.specs.Ordering.{nat_cmp};
+ghost use Rattle.std.specs.declared.cmp.Ordering.TheVariants.{Less};
+ghost use Rattle.mt_ident.specs.Identifiers.{IsKind, identifier_text};
 
 use crate::dates::{http_date, read_http_date};
 use crate::digests::{md5_read, md5_text};
@@ -18,6 +21,11 @@ pub fn identifier_again(kind: u8, number: u64) -> Option<u64>
 {
     uuid_number(kind, &uuid_text(kind, number))
 }
+
+/// Identifiers of one kind rise with their numbers, in the order of their bytes.
+pub fn identifiers_rise()
+    ensures { (kind n m : ℕ) → IsKind kind → n < m → m < 2 ^ 62 → slice_cmp nat_cmp (identifier_text kind n) (identifier_text kind m) ≡ Less }
+{}
 
 /// A digest's text is read as the digest.
 pub fn digest_again(digest: &[u8; 16]) -> Option<[u8; 16]>

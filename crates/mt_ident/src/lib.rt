@@ -13,6 +13,6 @@ pub mod laws;
 
 pub use dates::{http_date, iso_time, read_http_date};
 pub use digests::{md5_of, md5_read, md5_text};
-pub use identifiers::{uuid_number, uuid_text};
+pub use identifiers::{least_number, uuid_number, uuid_text};
 pub use md5::{Digest, Md5};
 pub use mt_base::LAST_MOMENT;

@@ -125,6 +125,10 @@ some_phases (Some (d ∷ ds)) = if nat_lt MOST_PHASES (length (d ∷ ds)) then E
 abbrev pub listed : Data → Result (List Data) InvalidJob
 listed d = some_phases (option_and_then (λ v. option_map list_of (as_array v)) (get (codes "phases") d))
 
+-- the phases of an object, or the first fault
+abbrev pub phases_in : List ℕ → Data → Result (List Phase) InvalidJob
+phases_in login d = and_then (listed d) (phases_of login 0)
+
 abbrev pub by_name : Option (List ℕ) → List ℕ
 by_name None = []
 by_name (Some text) = if is_job_name text then text else []

@@ -16,4 +16,4 @@ mod reading;
 pub use error::InvalidJob;
 pub use laws::documents_are_documents;
 pub use printing::{phases_value, print};
-pub use reading::read;
+pub use reading::{read, read_phases};

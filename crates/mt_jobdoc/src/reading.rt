@@ -1,13 +1,13 @@
 //! A document is read.
 ghost use Rattle.std.specs.Prelude.{◌≡◌, ◌≢◌, Ok, Err, IfOk, IfErr, map};
 ghost use Rattle.serde_json.specs.View.{view};
-ghost use Rattle.mt_jobdoc.specs.Document.{document_in, document_of, object_of, listed, name_in, IsUnlessMemory};
+ghost use Rattle.mt_jobdoc.specs.Document.{document_in, document_of, object_of, listed, name_in, phases_in, IsUnlessMemory};
 
 use crate::error::InvalidJob;
 use crate::fields::items;
 use crate::phases::phases;
 use mt_base::Text;
-use mt_types::{JobDocument, MOST_PHASES, is_job_name};
+use mt_types::{JobDocument, MOST_PHASES, Phases, is_job_name};
 use serde_json::Value;
 use std::alloc::{AllocError, Global};
 
@@ -76,6 +76,16 @@ pub fn read(alloc: Global, login: &str, bytes: &[u8]) -> Result<JobDocument, Inv
 {
     match object(alloc, bytes) {
         Ok(object) => document(alloc, login, &object),
+        Err(e) => Err(e),
+    }
+}
+
+/// The phases that stand under the key `phases` of an object, as those of a document do.
+pub fn read_phases(alloc: Global, login: &str, object: &Value) -> Result<Phases, InvalidJob>
+    ensures { IsUnlessMemory (phases_in login.now (view object.now)) result }
+{
+    match values(object) {
+        Ok(values) => phases(alloc, login, values),
         Err(e) => Err(e),
     }
 }

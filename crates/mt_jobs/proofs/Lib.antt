@@ -14,3 +14,4 @@ pub mod Grown
 pub mod Allowed
 pub mod Roots
 pub mod Committed
+pub mod Sums

@@ -12,7 +12,7 @@ use Rattle.mt_types.specs.declared.job.Job.{Job}
 use Rattle.mt_model.specs.State.{job_at}
 use Rattle.mt_model.proofs.Maps.{filter-map, take-map}
 use Rattle.mt_sched.proofs.Orders.{same_test}
-use Rattle.mt_jobs.specs.declared.pages.Stand.{Stand}
+use Rattle.mt_types.specs.declared.live.JobStand.{JobStand}
 use Rattle.mt_jobs.specs.Kept.{numbers_of}
 use Rattle.mt_jobs.specs.Pages.{page_of, standing, stands}
 
@@ -40,7 +40,7 @@ module _ {B : Type 0} where
       ∙ ap (λ l. x ∷ l) (found_again jobs xs (All-tail (λ x. job_at jobs x.number ≡ Some x) x xs all))
 
   -- the jobs of a page of numbers are the page
-  pub page_found : (stand : Stand) (first limit : ℕ) (jobs : List (Job B)) → IsStrictlySortedBy nat_cmp (numbers_of jobs) → filter_map (job_at jobs) (take limit (filter (λ k. nat_le first k) (numbers_of (standing stand jobs)))) ≡ page_of stand first limit jobs
+  pub page_found : (stand : JobStand) (first limit : ℕ) (jobs : List (Job B)) → IsStrictlySortedBy nat_cmp (numbers_of jobs) → filter_map (job_at jobs) (take limit (filter (λ k. nat_le first k) (numbers_of (standing stand jobs)))) ≡ page_of stand first limit jobs
   page_found stand first limit jobs rising =
       ap (λ l. filter_map (job_at jobs) (take limit l)) (filter-map (λ (j : Job B). j.number) (λ k. nat_le first k) (standing stand jobs))
       ∙ ap (filter_map (job_at jobs)) (take-map (λ (j : Job B). j.number) limit (filter (λ j. nat_le first j.number) (standing stand jobs)))

@@ -78,8 +78,9 @@ impl<B> Jobs<B> {
         }
     }
 
-    // The job of a number, with what is kept beside it.
-    pub(crate) fn kept(&self, number: u64) -> Option<&Kept<B>>
+    /// The job of a number, with what is kept beside it: where its outputs stand, and the shares of its reducers. A binary search;
+    /// takes no memory.
+    pub fn kept(&self, number: u64) -> Option<&Kept<B>>
         ensures job { option_map (λ k. k.job) (option_copied result) ≡ job_at self.now number }
         ensures kept { IfSome result (λ k. IsKept k.now) }
     {

@@ -15,4 +15,4 @@ mod refusals;
 
 pub use jobs::Jobs;
 pub use making::may_make;
-pub use pages::Stand;
+pub use mt_types::JobStand;

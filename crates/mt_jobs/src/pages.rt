@@ -3,18 +3,9 @@ ghost use Rattle.std.specs.Prelude.{◌≡◌, IfOk, nat_le, take};
 ghost use Rattle.std.specs.List.{filter};
 
 use crate::jobs::Jobs;
-use mt_types::Job;
+use mt_types::{Job, JobStand};
 use std::alloc::{AllocError, Global};
 use std::collections::BTreeSet;
-
-/// Whether a job runs.
-#[derive(Clone, Copy, Debug, PartialEq, Eq)]
-pub enum Stand {
-    /// It is neither finished nor cancelled.
-    Running,
-    /// It is finished or cancelled.
-    Done,
-}
 
 // At most so many numbers of a set, from the first that is not below.
 fn numbers_from(
@@ -34,17 +25,17 @@ impl<B> Jobs<B> {
     ghost use Rattle.mt_jobs.specs.Pages.{page_of, standing};
 
     // The numbers of the jobs that stand so.
-    fn numbers(&self, stand: Stand) -> &BTreeSet<u64>
+    fn numbers(&self, stand: JobStand) -> &BTreeSet<u64>
         ensures { result.now.keys ≡ numbers_of (standing stand self.now) }
     {
         match stand {
-            Stand::Running => &self.running,
-            Stand::Done => &self.done,
+            JobStand::Running => &self.running,
+            JobStand::Done => &self.done,
         }
     }
 
     /// The number of jobs that stand so. Takes no memory, and walks over nothing.
-    pub fn count(&self, stand: Stand) -> usize
+    pub fn count(&self, stand: JobStand) -> usize
         ensures { result ≡ length (standing stand self.now) }
     {
         self.numbers(stand).len()
@@ -55,7 +46,7 @@ impl<B> Jobs<B> {
     pub fn page<'a>(
         &'a self,
         alloc: Global,
-        stand: Stand,
+        stand: JobStand,
         from: u64,
         limit: usize,
     ) -> Result<Vec<&'a Job<B>>, AllocError>

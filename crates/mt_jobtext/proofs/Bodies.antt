@@ -20,8 +20,8 @@ use Rattle.mt_model.proofs.Maps.{length-map, slice_get-map}
 use Rattle.mt_model.proofs.TasksWith.{feed-with}
 use Rattle.mt_jobtext.specs.JobTexts.{error_where_bad, errors_of, failed_error, failed_name, line, lined, line_count, live_status, missing_error, name_where_bad, names_failed, names_in, names_missing, object_of_task, outcome_word, reducer_of_task, status_data, stats_data, task_data, text_of, texts_of}
 use Rattle.mt_jobtext.specs.Laws.{ArchivesOfNoBody, TextsOfNoBody}
-use Rattle.mt_jobtext.specs.declared.text.LiveText.{LiveText}
-use Rattle.mt_jobtext.specs.declared.text.LiveText.TheVariants as live
+use Rattle.mt_types.specs.declared.live.LiveText.{LiveText}
+use Rattle.mt_types.specs.declared.live.LiveText.TheVariants as live
 
 map_over : {X Y Z : Type 0} (g : Y → Z) (t : X → Y) (h : X → Z) → ((x : X) → g (t x) ≡ h x) → (xs : List X) → map g (map t xs) ≡ map h xs
 map_over g t h same [] = refl

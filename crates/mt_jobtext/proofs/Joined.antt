@@ -23,8 +23,8 @@ use Rattle.mt_jobtext.specs.StatusPieces.{part_count, part_of, status_front, sta
 use Rattle.mt_jobtext.specs.declared.pieces.Shown.{Shown}
 use Rattle.mt_jobtext.specs.declared.stats.Stats.{Stats}
 use Rattle.mt_jobtext.specs.declared.status.Ending.{Ending}
-use Rattle.mt_jobtext.specs.declared.text.LiveText.{LiveText}
-use Rattle.mt_jobtext.specs.declared.text.LiveText.TheVariants as live
+use Rattle.mt_types.specs.declared.live.LiveText.{LiveText}
+use Rattle.mt_types.specs.declared.live.LiveText.TheVariants as live
 use Rattle.mt_jobtext.proofs.Cut.{cut_joined, parts_escaped}
 use Rattle.mt_jobtext.proofs.Texts.{status_written}
 

@@ -21,8 +21,8 @@ use Rattle.mt_model.specs.Feed.{feed, items_of}
 use Rattle.mt_model.specs.Finished.{live_out, names_out, outputs_of}
 use Rattle.mt_model.specs.Names.{job_name}
 use Rattle.mt_model.specs.Tasks.{object_read, reducer_at}
-use Rattle.mt_jobtext.specs.declared.text.LiveText.{LiveText}
-use Rattle.mt_jobtext.specs.declared.text.LiveText.TheVariants as live
+use Rattle.mt_types.specs.declared.live.LiveText.{LiveText}
+use Rattle.mt_types.specs.declared.live.LiveText.TheVariants as live
 
 -- a text on a line of its own
 abbrev pub line : List ℕ → List ℕ

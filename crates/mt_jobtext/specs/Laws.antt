@@ -10,7 +10,7 @@ use Rattle.mt_model.specs.Lawful.{Lawful}
 use Rattle.mt_model.specs.State.{State, job_at}
 use Rattle.mt_jobtext.specs.JobTexts.{archive_of, line_count, text_of}
 use Rattle.mt_jobtext.specs.Pieces.{IsShowable}
-use Rattle.mt_jobtext.specs.declared.text.LiveText.{LiveText}
+use Rattle.mt_types.specs.declared.live.LiveText.{LiveText}
 
 -- whatever is read for bodies, a job over these bytes has the text of the job itself, with as many lines
 pub record IsOfNoBody (read : Body → List ℕ) (login : List ℕ) (job : Job Body) (text : LiveText) : Type 0 where

@@ -14,8 +14,8 @@ use Rattle.mt_types.specs.declared.job.TraceEntry.{TraceEntry}
 use Rattle.mt_feeds.specs.Kept.{AreFeeds}
 use Rattle.mt_model.specs.Feed.{feed, items_of}
 use Rattle.mt_model.specs.Finished.{outputs_of}
-use Rattle.mt_jobtext.specs.declared.text.LiveText.{LiveText}
-use Rattle.mt_jobtext.specs.declared.text.LiveText.TheVariants as live
+use Rattle.mt_types.specs.declared.live.LiveText.{LiveText}
+use Rattle.mt_types.specs.declared.live.LiveText.TheVariants as live
 use Rattle.mt_jobtext.specs.declared.pieces.Shown.{Shown}
 use Rattle.mt_jobtext.specs.declared.stats.Stats.{Stats}
 use Rattle.mt_jobtext.specs.declared.status.Ending.{Ending}

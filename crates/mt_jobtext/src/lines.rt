@@ -4,12 +4,12 @@ use crate::pieces::Shown;
 use crate::sizes::joined_len;
 use crate::stats::needed_stats;
 use crate::status::Ending;
-use crate::text::LiveText;
 use crate::whole::{piece_count, shown};
 use crate::window::Window;
 use mt_base::LAST_MOMENT;
 use mt_edge::{ReadStep, Source};
 use mt_feeds::Kept;
+use mt_types::LiveText;
 use std::alloc::{AllocError, Global};
 use std::marker::Model;
 

@@ -12,10 +12,9 @@ use crate::names::{put_item_lines, put_path_line, put_posted_line};
 use crate::stats::Stats;
 use crate::status::{Ending, put_status, status_count};
 use crate::tasks::put_task_line;
-use crate::text::LiveText;
 use crate::window::Window;
 use mt_feeds::Kept;
-use mt_types::{Outcome, TraceEntry};
+use mt_types::{LiveText, Outcome, TraceEntry};
 
 /// What a text is made of.
 #[derive(Drop)]

@@ -11,11 +11,11 @@ use crate::lengths::{items_len, outputs_len};
 use crate::pieces::Shown;
 use crate::stats::needed_stats;
 use crate::status::Ending;
-use crate::text::LiveText;
 use crate::whole::{piece_count, shown};
 use crate::window::Window;
 use mt_base::LAST_MOMENT;
 use mt_feeds::Kept;
+use mt_types::LiveText;
 use std::alloc::{AllocError, Global};
 
 /// How many bytes a text of a job as it stands has. It takes no memory: the error says that the number is not below

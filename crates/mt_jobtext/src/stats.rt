@@ -8,9 +8,8 @@ ghost use Rattle.mt_jobtext.specs.Pieces as pieces;
 ghost use Rattle.mt_jobtext.specs.Pieces.{HasStats, NeedsStats};
 
 use crate::found::{failed_path, outputs_in};
-use crate::text::LiveText;
 use mt_feeds::Kept;
-use mt_types::{Job, Outcome, TraceEntry};
+use mt_types::{Job, LiveText, Outcome, TraceEntry};
 use std::alloc::AllocError;
 
 /// The numbers of a job's status.

@@ -12,11 +12,10 @@ use crate::pieces::{Shown, first_count, tasks};
 use crate::sizes::joined_len;
 use crate::stats::{Stats, needed_stats, sum};
 use crate::status::Ending;
-use crate::text::LiveText;
 use crate::window::Window;
 use mt_base::{Bytes, LAST_MOMENT};
 use mt_feeds::Kept;
-use mt_types::Job;
+use mt_types::{Job, LiveText};
 use std::alloc::{AllocError, Global};
 
 /// A text of a job as it stands. Its only allocation is the text.

@@ -1,5 +1,5 @@
 -- The promise of a finished job, from what is known of histories and of traces.
-use Rattle.std.proofs.Common.{◌≡◌, ℕ, ◌+◌, ◌==◌, Bool, true, false, not, List, [], ◌∷◌, length, map, Some, refl, sym, ap, subst, ◌∙◌, arith, zero, suc}
+use Rattle.std.proofs.Common.{◌≡◌, ℕ, ◌+◌, ◌==◌, Bool, true, false, not, List, [], ◌∷◌, length, map, Option, Some, None, refl, sym, ap, subst, ◌∙◌, arith, zero, suc}
 use Rattle.std.specs.Prelude.{All}
 use Rattle.std.specs.List.{Contains, enumerate_from, slice_get}
 use Rattle.mt_types.specs.declared.command.Command.{Command}
@@ -21,11 +21,10 @@ use Rattle.mt_model.proofs.LawfulInputs.{and_left, and_right}
 use Rattle.mt_model.proofs.Traces.{once_each}
 use Rattle.mt_types.specs.WellMade.{HasReducers, IsDocument, IsDocumentPhase}
 use Rattle.mt_model.proofs.Maps.{same_function}
-use Rattle.mt_model.specs.Tasks.{reducer_of}
+use Rattle.mt_model.specs.Tasks.{reads_place, reducer_of}
 use Rattle.std.specs.Prelude.{◌%◌}
 use Rattle.std.specs.List.{count_by}
 use Rattle.std.proofs.lemmas.Bool.{eqb-true, lt-ltb}
-use Rattle.std.proofs.lemmas.Option.{slice_get_within}
 use Rattle.std.proofs.lemmas.Nat.{mod_below}
 use Rattle.std.proofs.lemmas.List.Elements.{All-nil, All-cons}
 use Rattle.mt_model.specs.Resolve.{resolve}
@@ -34,6 +33,10 @@ use Rattle.mt_model.specs.Honest.{MayGive, itself}
 use Rattle.mt_model.specs.Tasks.{run_over}
 use Rattle.mt_model.proofs.Traces.{some_same}
 use Rattle.mt_model.proofs.Same.{same_at, same_run}
+use Rattle.mt_model.proofs.Shares.{beyond, reads_map, reads_share}
+use Rattle.mt_model.specs.Posted.{posted_from}
+use Rattle.mt_model.proofs.LawfulHistories.{taken_honest}
+use Rattle.mt_model.proofs.Posts.{inputs_posted}
 use Rattle.mt_model.proofs.Stood.{HasStood, Stood, all_stand, all_stood}
 use Rattle.mt_model.proofs.Standing.{StandingJob}
 use Rattle.std.specs.List.{AllByRecursion}
@@ -81,11 +84,17 @@ count_place : (k : ℕ) (es : List (TraceEntry Bytes)) → count_by (λ e. k == 
 count_place k es = ap (λ t. count_by t es) (same_function (λ e. k == e.place) (λ e. e.place == k) (λ e. turned k e.place (k == e.place) (e.place == k) refl refl))
 
 read_once : (kind : PhaseKind) → HasReducers kind → (items : List (Item Bytes)) (entries : List (TraceEntry Bytes)) → IsEachTaskOnce kind items entries → IsReadOnce kind items entries
-read_once Map some items entries once k i at =
-    once k ∙ ap (λ b. cond b 1 0) (lt-ltb k (length items) (slice_get_within items k i at))
-read_once (Reduce count) some items entries once k i at =
-    let r : ℕ = reducer_of (k, i) % count in
-    count_place r entries ∙ once r ∙ ap (λ b. cond b 1 0) (lt-ltb r count (mod_below (reducer_of (k, i)) count (some_count count some)))
+read_once Map some items entries once k less =
+    ap (λ t. count_by t entries) (same_function (λ (e : TraceEntry Bytes). reads_place Map items k e.place) (λ e. e.place == k) (λ e. reads_map items k e.place less))
+    ∙ once k ∙ ap (λ b. cond b 1 0) (lt-ltb k (length items) less)
+read_once (Reduce count) some items entries once k less = by (slice_get items k) refl
+  where
+    by : (o : Option (Item Bytes)) → slice_get items k ≡ o → count_by (λ (e : TraceEntry Bytes). reads_place (Reduce count) items k e.place) entries ≡ 1
+    by None at = let past = beyond items k at in absurd (omega (arith, past, less))
+    by (Some i) at =
+        let r : ℕ = reducer_of (k, i) % count in
+        ap (λ t. count_by t entries) (same_function (λ (e : TraceEntry Bytes). reads_place (Reduce count) items k e.place) (λ e. r == e.place) (λ e. reads_share items count (some_count count some) k e.place i at))
+        ∙ count_place r entries ∙ once r ∙ ap (λ b. cond b 1 0) (lt-ltb r count (mod_below (reducer_of (k, i)) count (some_count count some)))
 
 module _ (login : List ℕ) (gives : Run → Bytes → Raw → Type 0) (fate_of : Raw → Fate Bytes) where
   contained : (P : Job Bytes → Type 0) (jobs : List (Job Bytes)) (job : Job Bytes) → All P jobs → Contains jobs job → P job
@@ -123,6 +132,7 @@ module _ (login : List ℕ) (gives : Run → Bytes → Raw → Type 0) (fate_of 
           of_phase = refl;
           given = gave_here;
           outcome = out;
+          held = t.held;
         })
 
     given_in : (n : ℕ) (p : Phase) → slice_get job.document.phases n ≡ Some p → (es : List (TraceEntry Bytes)) → ((k : ℕ) (e : TraceEntry Bytes) → slice_get es k ≡ Some e → (m : ℕ) × Stood login gives fate_of h job m e)
@@ -200,4 +210,4 @@ module _ (login : List ℕ) (gives : Run → Bytes → Raw → Type 0) (fate_of 
       let tasks = once_each job stand.sound (complete job stand.sound done) in
       let some = reducers_at job.document stand.document in
       let given = entries_given h honest job there stand.sound in
-      record { ended = has_ended job stand.sound done; means = all_phases h job tasks some given; once = all_reads h job tasks some given }
+      record { ended = has_ended job stand.sound done; inputs = contained (λ (j : Job Bytes). j.inputs ≡ posted_from first_state h j.number) (replay first_state h).jobs job (inputs_posted length h (taken_honest login gives fate_of first_state h honest)) there; means = all_phases h job tasks some given; once = all_reads h job tasks some given }

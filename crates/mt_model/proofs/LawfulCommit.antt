@@ -30,7 +30,7 @@ use Rattle.mt_types.specs.declared.task.TaskRecord.{TaskRecord}
 use Rattle.mt_types.specs.declared.task.TaskRecord.TheVariants.{Emit, Keep, Ref}
 use Rattle.mt_model.specs.Feed.{entries_of, feed, items_in, items_of}
 use Rattle.mt_model.specs.JobSteps.{commit_refusal, with_entry}
-use Rattle.mt_model.specs.Lawful.{HasFolders, HasRoot, IsBelow, LawfulJob, fits_below, is_output, job_named}
+use Rattle.mt_model.specs.Lawful.{HasFolders, LawfulItem, IsBelow, LawfulJob, fits_below, is_output, job_named}
 use Rattle.mt_model.specs.Names.{ends_in_output, is_task_place, job_name, output_prefix, paths_above}
 use Rattle.mt_model.specs.Resolve.{Committing, Resolved, Taken, and_then, can_hold_object, fresh_place, is_object_at, kept, next_number, resolve, resolved, take_placed, take_record, take_records, take_reference, task_object, with_output}
 use Rattle.mt_model.specs.Rows.{Rows, at, is_directory, object_at, object_in}
@@ -135,7 +135,7 @@ module _ {B : Type 0} (count : ℕ) (room : count < MOST_COMMANDS) (jobs : List 
 
   record Good (k : ℕ) (t : Taken B) : Type 0 where
     whole : Whole m jobs t.rows
-    items : All HasRoot t.items
+    items : All LawfulItem t.items
     made : t.made ≤ k
 
   abbrev GoodResult : ℕ → Result (Taken B) TaskFailure → Type 0
@@ -145,10 +145,10 @@ module _ {B : Type 0} (count : ℕ) (room : count < MOST_COMMANDS) (jobs : List 
   later_good : (k : ℕ) (t : Taken B) → Good k t → Good (k + 1) t
   later_good k t g = record { whole = g.whole; items = g.items; made = let le : t.made ≤ k = g.made in omega arith }
 
-  output_good : (k : ℕ) (t : Taken B) (name : AccountPath) (body : B) (reducer : Option ℕ) → Good k t → Good k (with_output c name body reducer t)
-  output_good k t name body reducer g = record {
+  output_good : (k : ℕ) (t : Taken B) (name : AccountPath) (body : B) (reducer : Option ℕ) → IsPath name → Good k t → Good k (with_output c name body reducer t)
+  output_good k t name body reducer path g = record {
     whole = g.whole;
-    items = All-push HasRoot t.items (record { name = name; root = root; body = body; reducer = reducer }) g.items (record { component = component; short = short });
+    items = All-push LawfulItem t.items (record { name = name; root = root; body = body; reducer = reducer }) g.items (record { name = path; component = component; short = short });
     made = g.made;
   }
 
@@ -215,8 +215,11 @@ module _ {B : Type 0} (count : ℕ) (room : count < MOST_COMMANDS) (jobs : List 
     belongs body = belongs_below name [] (entry.Object (task_object number body moment))
         (or_right (not (ends_in_output name)) _ (ap (λ o. option_map_or (λ n. n == number) o false) ends ∙ eq-eqb number number refl))
 
+    fresh_path : IsPath (fresh_place c t)
+    fresh_path = output_is_path root component short phase few number j.number
+
     fresh_good : (body : B) → Good (k + 1) (kept c (fresh_place c t) body t)
-    fresh_good body = kept_good k t (fresh_place c t) body less g (output_is_path root component short phase few number j.number) (ready_output name)
+    fresh_good body = kept_good k t (fresh_place c t) body less g fresh_path (ready_output name)
         (record {
           whole = g.whole;
           made = λ n under. absurd (omega (arith, under));
@@ -226,19 +229,19 @@ module _ {B : Type 0} (count : ℕ) (room : count < MOST_COMMANDS) (jobs : List 
 
   -- ---- one record, and all
 
-  emitted : (k : ℕ) (p : AccountPath) (body : B) (reducer : Option ℕ) (r : Result (Taken B) TaskFailure) → GoodResult k r → GoodResult k (and_then (λ new. Ok (with_output c p body reducer new)) r)
-  emitted k p body reducer (Ok t) g = output_good k t p body reducer g
-  emitted k p body reducer (Err failure) g = tt
+  emitted : (k : ℕ) (p : AccountPath) (body : B) (reducer : Option ℕ) → IsPath p → (r : Result (Taken B) TaskFailure) → GoodResult k r → GoodResult k (and_then (λ new. Ok (with_output c p body reducer new)) r)
+  emitted k p body reducer path (Ok t) g = output_good k t p body reducer path g
+  emitted k p body reducer path (Err failure) g = tt
 
-  referred : (k : ℕ) (p : AccountPath) (t : Taken B) → Good k t → (o : Option (Object B)) → GoodResult (k + 1) (take_reference c p t o)
-  referred k p t g None = tt
-  referred k p t g (Some o) = output_good (k + 1) t p o.body None (later_good k t g)
+  referred : (k : ℕ) (p : AccountPath) (t : Taken B) → IsPath p → Good k t → (o : Option (Object B)) → GoodResult (k + 1) (take_reference c p t o)
+  referred k p t path g None = tt
+  referred k p t path g (Some o) = output_good (k + 1) t p o.body None path (later_good k t g)
 
   record_good : (k : ℕ) (t : Taken B) → Good k t → k < 4096 → (r : TaskRecord B) → IsWellMadeRecord r → GoodResult (k + 1) (take_record c t r)
-  record_good k t g less (Emit None reducer body) made = output_good (k + 1) (kept c (fresh_place c t) body t) (fresh_place c t) body reducer (fresh_good k t g less body)
-  record_good k t g less (Emit (Some p) reducer body) made = emitted (k + 1) p body reducer (take_placed c p body t) (placed_good k t p body less g made (can_hold_object t.rows j.number p) refl)
+  record_good k t g less (Emit None reducer body) made = output_good (k + 1) (kept c (fresh_place c t) body t) (fresh_place c t) body reducer (fresh_path k t g less) (fresh_good k t g less body)
+  record_good k t g less (Emit (Some p) reducer body) made = emitted (k + 1) p body reducer made (take_placed c p body t) (placed_good k t p body less g made (can_hold_object t.rows j.number p) refl)
   record_good k t g less (Keep p body) made = placed_good k t p body less g made (can_hold_object t.rows j.number p) refl
-  record_good k t g less (Ref name) made = referred k name t g (object_at t.rows name)
+  record_good k t g less (Ref name) made = referred k name t made g (object_at t.rows name)
 
   next_good : (k : ℕ) (r : TaskRecord B) → IsWellMadeRecord r → k < 4096 → (x : Result (Taken B) TaskFailure) → GoodResult k x → GoodResult (k + 1) (and_then (λ t. take_record c t r) x)
   next_good k r made less (Ok t) g = record_good k t g less r made
@@ -254,17 +257,17 @@ module _ {B : Type 0} (count : ℕ) (room : count < MOST_COMMANDS) (jobs : List 
   -- what a commit leaves is lawful, and its outputs have roots
   pub record GoodEnd (r : Resolved B) : Type 0 where
     pub whole : Whole m jobs r.rows
-    pub items : All HasRoot (items_of r.outcome)
+    pub items : All LawfulItem (items_of r.outcome)
 
   ended : (k : ℕ) (rows : Rows B) → Whole m jobs rows → (x : Result (Taken B) TaskFailure) → GoodResult k x → GoodEnd (resolved rows x)
   ended k rows w (Ok t) g = record { whole = g.whole; items = g.items }
-  ended k rows w (Err failure) g = record { whole = w; items = All-nil HasRoot }
+  ended k rows w (Err failure) g = record { whole = w; items = All-nil LawfulItem }
 
   pub resolve_good : (rows : Rows B) → Whole m jobs rows → (f : Fate B) → IsWellMadeFate f → GoodEnd (resolve c rows f)
   resolve_good rows w (fate.Good records) made =
       ended (0 + length records) rows w (take_records c records (Ok (record { rows = rows; items = []; made = 0 })))
-      (records_good records 0 made.1 (let le = made.0 in omega (arith, le)) (Ok (record { rows = rows; items = []; made = 0 })) (record { whole = w; items = All-nil HasRoot; made = omega arith }))
-  resolve_good rows w (fate.Bad failure status stderr) made = record { whole = w; items = All-nil HasRoot }
+      (records_good records 0 made.1 (let le = made.0 in omega (arith, le)) (Ok (record { rows = rows; items = []; made = 0 })) (record { whole = w; items = All-nil LawfulItem; made = omega arith }))
+  resolve_good rows w (fate.Bad failure status stderr) made = record { whole = w; items = All-nil LawfulItem }
 
 -- ---- the job
 
@@ -275,28 +278,28 @@ pub record IsRoot (root : List ℕ) : Type 0 where
 
 module _ {B : Type 0} where
   -- the items of a feed have roots
-  items_root : (n : ℕ) (es : List (TraceEntry B)) → All (λ e. All HasRoot (items_of e.outcome)) es → All HasRoot (items_in (entries_of n es))
-  items_root n [] all = All-nil HasRoot
-  items_root n (e ∷ es) all = by (e.phase == n) (items_root n es (All-tail (λ e. All HasRoot (items_of e.outcome)) e es all))
+  items_root : (n : ℕ) (es : List (TraceEntry B)) → All (λ e. All LawfulItem (items_of e.outcome)) es → All LawfulItem (items_in (entries_of n es))
+  items_root n [] all = All-nil LawfulItem
+  items_root n (e ∷ es) all = by (e.phase == n) (items_root n es (All-tail (λ e. All LawfulItem (items_of e.outcome)) e es all))
     where
-      by : (b : Bool) → All HasRoot (items_in (entries_of n es)) → All HasRoot (items_in (cond b (e ∷ entries_of n es) (entries_of n es)))
-      by true more = All-append HasRoot (items_of e.outcome) (items_in (entries_of n es)) (All-head (λ e. All HasRoot (items_of e.outcome)) e es all) more
+      by : (b : Bool) → All LawfulItem (items_in (entries_of n es)) → All LawfulItem (items_in (cond b (e ∷ entries_of n es) (entries_of n es)))
+      by true more = All-append LawfulItem (items_of e.outcome) (items_in (entries_of n es)) (All-head (λ e. All LawfulItem (items_of e.outcome)) e es all) more
       by false more = more
 
-  feed_root : (count : ℕ) (j : Job B) → LawfulJob count j → (n : ℕ) → All HasRoot (feed j n)
+  feed_root : (count : ℕ) (j : Job B) → LawfulJob count j → (n : ℕ) → All LawfulItem (feed j n)
   feed_root count j l zero = l.inputs
   feed_root count j l (suc n) = items_root n j.trace l.outputs
 
-  item_at : (xs : List (Item B)) (k : ℕ) (i : Item B) → All HasRoot xs → slice_get xs k ≡ Some i → HasRoot i
+  item_at : (xs : List (Item B)) (k : ℕ) (i : Item B) → All LawfulItem xs → slice_get xs k ≡ Some i → LawfulItem i
   item_at [] k i all at = cc
-  item_at (x ∷ xs) zero i all at = subst HasRoot (ap (λ o. unwrap_or o x) at) (All-head HasRoot x xs all)
-  item_at (x ∷ xs) (suc k) i all at = item_at xs k i (All-tail HasRoot x xs all) at
+  item_at (x ∷ xs) zero i all at = subst LawfulItem (ap (λ o. unwrap_or o x) at) (All-head LawfulItem x xs all)
+  item_at (x ∷ xs) (suc k) i all at = item_at xs k i (All-tail LawfulItem x xs all) at
 
-  map_case : (items : List (Item B)) (place : ℕ) → All HasRoot items → place < length items → (o : Option (Item B)) → slice_get items place ≡ o → IsRoot (unwrap_or (option_map (λ i. i.root) o) [])
+  map_case : (items : List (Item B)) (place : ℕ) → All LawfulItem items → place < length items → (o : Option (Item B)) → slice_get items place ≡ o → IsRoot (unwrap_or (option_map (λ i. i.root) o) [])
   map_case items place all less None at = let past = beyond items place at in absurd (omega (arith, past, less))
   map_case items place all less (Some i) at = let has = item_at items place i all at in record { component = has.component; short = has.short }
 
-  kind_root : (kind : PhaseKind) (items : List (Item B)) (place : ℕ) → All HasRoot items → (kind ≡ Map → place < length items) → IsRoot (root_at kind items place)
+  kind_root : (kind : PhaseKind) (items : List (Item B)) (place : ℕ) → All LawfulItem items → (kind ≡ Map → place < length items) → IsRoot (root_at kind items place)
   kind_root Map items place all less = map_case items place all (less refl) (slice_get items place) refl
   kind_root (Reduce count) items place all less = record { component = word (codes "reduce") (omega arith) (omega arith) refl refl; short = omega arith }
 
@@ -323,14 +326,17 @@ module _ {B : Type 0} where
       task_case count j l n place (slice_get j.document.phases n) refl (and_right (is_running j) _ may)
 
   -- with an entry of a commit
-  pub LawfulJob-entry : (count : ℕ) (j : Job B) (e : TraceEntry B) → commit_refusal e.phase e.place j ≡ None → e.position ≡ count → All HasRoot (items_of e.outcome) → LawfulJob count j → LawfulJob (count + 1) (with_entry e j)
-  LawfulJob-entry count j e none at items law =
+  pub LawfulJob-entry : (count : ℕ) (j : Job B) (e : TraceEntry B) → commit_refusal e.phase e.place j ≡ None → e.position ≡ count → All LawfulItem (items_of e.outcome) → length (items_of e.outcome) ≤ 4095 → LawfulJob count j → LawfulJob (count + 1) (with_entry e j)
+  LawfulJob-entry count j e none at items few law =
       let l = LawfulJob-later count (count + 1) (omega arith) j law in
       record {
         number = l.number;
         positions = All-push (λ d. d.position < count + 1) j.trace e l.positions (omega (arith, at));
+        few = l.few;
+        missing = l.missing;
+        few_each = All-push (λ d. length (items_of d.outcome) ≤ 4095) j.trace e l.few_each few;
         inputs = l.inputs;
-        outputs = All-push (λ d. All HasRoot (items_of d.outcome)) j.trace e l.outputs items;
+        outputs = All-push (λ d. All LawfulItem (items_of d.outcome)) j.trace e l.outputs items;
         document = l.document;
         assets = l.assets;
         sound = sound_entry count j e none at law.positions law.sound;

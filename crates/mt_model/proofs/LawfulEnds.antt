@@ -27,6 +27,9 @@ module _ {B : Type 0} where
   LawfulJob-closed n j moment cancelled complete law = record {
     number = law.number;
     positions = law.positions;
+    few = law.few;
+    missing = law.missing;
+    few_each = law.few_each;
     inputs = law.inputs;
     outputs = law.outputs;
     document = law.document;

@@ -1,11 +1,12 @@
 -- A job that gets inputs, or whose input ends, stays lawful.
-use Rattle.std.proofs.Common.{◌≡◌, ℕ, ◌-◌, ◌<◌, ◌≤◌, Bool, true, false, cond, not, ◌&&◌, ◌||◌, nat_lt, nat_le, List, [], ◌∷◌, ◌++◌, length, Option, Some, None, refl, sym, subst, ◌∙◌, arith, zero, suc, length-append}
+use Rattle.std.proofs.Common.{◌≡◌, ℕ, ◌+◌, ◌-◌, ◌<◌, ◌≤◌, Bool, true, false, cond, not, ◌&&◌, ◌||◌, nat_lt, nat_le, List, [], ◌∷◌, ◌++◌, length, Option, Some, None, refl, sym, subst, ◌∙◌, arith, zero, suc, length-append}
 use Rattle.std.specs.Prelude.{is_some, IsSome, codes}
-use Rattle.std.specs.List.{slice_get}
+use Rattle.std.specs.List.{AllByRecursion, slice_get}
 use Rattle.std.proofs.lemmas.Bool.{lt-ltb, ltb-true, leb-true}
 use Rattle.std.proofs.lemmas.List.Elements.{All-push}
 use Rattle.mt_path.specs.AccountPath.{AccountPath, IsComponent, IsPath, root_of}
 use Rattle.mt_path.specs.declared.area.Area.{Area}
+use Rattle.mt_types.specs.WellMade.{IsWellMadeLine}
 use Rattle.mt_types.specs.declared.document.InputLine.{InputLine}
 use Rattle.mt_types.specs.declared.document.InputLine.TheVariants.{Named, Other}
 use Rattle.mt_types.specs.declared.document.Phase.{Phase}
@@ -18,13 +19,14 @@ use Rattle.mt_types.specs.declared.object.Entry.TheVariants as entry
 use Rattle.mt_types.specs.declared.object.Object.{Object}
 use Rattle.mt_model.specs.Feed.{feed}
 use Rattle.mt_model.specs.JobSteps.{input_refusal, with_end, with_line, with_lines, with_named}
-use Rattle.mt_model.specs.Lawful.{HasRoot, LawfulJob, LawfulRows}
-use Rattle.mt_model.specs.Limits.{longest_root}
+use Rattle.mt_model.specs.Lawful.{LawfulItem, LawfulJob, LawfulRows}
+use Rattle.mt_model.specs.Limits.{longest_root, most_inputs}
 use Rattle.mt_model.specs.Listing.{name_of}
 use Rattle.mt_model.specs.Names.{root_of_input}
 use Rattle.mt_model.specs.Rows.{Rows, at, is_directory, object_at, object_in}
 use Rattle.mt_model.specs.Sound.{Sound, before}
 use Rattle.mt_model.specs.Tasks.{is_task_of, may_begin, task_count}
+use Rattle.mt_model.proofs.EachStep.{pushed}
 use Rattle.mt_model.proofs.LawfulJobs.{KeepsJob}
 use Rattle.mt_model.proofs.RowLaws.{not_refused}
 use Rattle.mt_model.proofs.Words.{input_is_component}
@@ -93,6 +95,9 @@ module _ {B : Type 0} where
   LawfulJob-ended n j o law = record {
     number = law.number;
     positions = law.positions;
+    few = law.few;
+    missing = law.missing;
+    few_each = law.few_each;
     inputs = law.inputs;
     outputs = law.outputs;
     document = law.document;
@@ -153,9 +158,20 @@ module _ {B : Type 0} where
     pub opened : IsOpen new
     pub number : new.number ≡ j.number
 
-  missing_case : (n : ℕ) (j : Job B) (lines : List InputLine) → LawfulJob n j → IsOpen j → TakesLines n j (record j { missing = lines })
-  missing_case n j lines law o = record {
-    law = record { number = law.number; positions = law.positions; inputs = law.inputs; outputs = law.outputs; document = law.document; assets = law.assets; sound = sound_missing j lines o law.sound };
+  missing_case : (n : ℕ) (j : Job B) (line : InputLine) → LawfulJob n j → IsOpen j → IsWellMadeLine line → length j.inputs + length j.missing + 1 ≤ most_inputs → TakesLines n j (record j { missing = j.missing ++ line ∷ [] })
+  missing_case n j line law o made room = record {
+    law = record {
+      number = law.number;
+      positions = law.positions;
+      few = let more = length-append j.missing (line ∷ []) in omega (arith, more, room);
+      missing = pushed IsWellMadeLine j.missing line law.missing made;
+      few_each = law.few_each;
+      inputs = law.inputs;
+      outputs = law.outputs;
+      document = law.document;
+      assets = law.assets;
+      sound = sound_missing j (j.missing ++ line ∷ []) o law.sound;
+    };
     opened = record { ended = o.ended; done = o.done };
     number = refl;
   }
@@ -174,22 +190,26 @@ module _ {B : Type 0} where
   some_entry (Some x) o is = refl
 
   -- the item that an object becomes has a root
-  root_good : (n : ℕ) (rows : Rows B) (p : AccountPath) (o : Object B) → LawfulRows n rows → object_at rows p ≡ Some o → HasRoot (record { name = p; root = root_of_input p; body = o.body; reducer = None })
+  root_good : (n : ℕ) (rows : Rows B) (p : AccountPath) (o : Object B) → LawfulRows n rows → object_at rows p ≡ Some o → LawfulItem (record { name = p; root = root_of_input p; body = o.body; reducer = None })
   root_good n rows p o law is =
       let path : IsPath p = law.paths p (some_entry (at rows p) o is) in
       let component : IsComponent (name_of p) = root_case n rows law p.area p.parts o path is in
       let both = short_case (name_of p) component (nat_le (length (name_of p)) longest_root) refl in
-      record { component = both.0; short = both.1 }
+      record { name = path; component = both.0; short = both.1 }
 
-  named_case : (n : ℕ) (rows : Rows B) (law : LawfulRows n rows) (p : AccountPath) (j : Job B) → LawfulJob n j → IsOpen j → (o : Option (Object B)) → object_at rows p ≡ o → TakesLines n j (with_named p j o)
-  named_case n rows law p j job o None is = missing_case n j (j.missing ++ Named p ∷ []) job o
-  named_case n rows law p j job o (Some object) is =
+  named_case : (n : ℕ) (rows : Rows B) (law : LawfulRows n rows) (p : AccountPath) (j : Job B) → LawfulJob n j → IsOpen j → IsPath p → length j.inputs + length j.missing + 1 ≤ most_inputs
+      → (o : Option (Object B)) → object_at rows p ≡ o → TakesLines n j (with_named p j o)
+  named_case n rows law p j job o made room None is = missing_case n j (Named p) job o made room
+  named_case n rows law p j job o made room (Some object) is =
       let item : Item B = record { name = p; root = root_of_input p; body = object.body; reducer = None } in
       record {
         law = record {
           number = job.number;
           positions = job.positions;
-          inputs = All-push HasRoot j.inputs item job.inputs (root_good n rows p object law is);
+          few = let more = length-append j.inputs (item ∷ []) in omega (arith, more, room);
+          missing = job.missing;
+          few_each = job.few_each;
+          inputs = All-push LawfulItem j.inputs item job.inputs (root_good n rows p object law is);
           outputs = job.outputs;
           document = job.document;
           assets = job.assets;
@@ -199,9 +219,19 @@ module _ {B : Type 0} where
         number = refl;
       }
 
-  line_case : (n : ℕ) (rows : Rows B) → LawfulRows n rows → (j : Job B) → LawfulJob n j → IsOpen j → (line : InputLine) → TakesLines n j (with_line rows j line)
-  line_case n rows law j job o (Named p) = named_case n rows law p j job o (object_at rows p) refl
-  line_case n rows law j job o (Other text) = missing_case n j (j.missing ++ Other text ∷ []) job o
+  line_case : (n : ℕ) (rows : Rows B) → LawfulRows n rows → (j : Job B) → LawfulJob n j → IsOpen j → (line : InputLine) → IsWellMadeLine line → length j.inputs + length j.missing + 1 ≤ most_inputs
+      → TakesLines n j (with_line rows j line)
+  line_case n rows law j job o (Named p) made room = named_case n rows law p j job o made room (object_at rows p) refl
+  line_case n rows law j job o (Other text) made room = missing_case n j (Other text) job o tt room
+
+  -- each line is an input or a missing line
+  named_counts : (p : AccountPath) (j : Job B) (o : Option (Object B)) → length (with_named p j o).inputs + length (with_named p j o).missing ≡ length j.inputs + length j.missing + 1
+  named_counts p j None = let more = length-append j.missing (Named p ∷ []) in omega (arith, more)
+  named_counts p j (Some object) = let more = length-append j.inputs (record { name = p; root = root_of_input p; body = object.body; reducer = None } ∷ []) in omega (arith, more)
+
+  line_counts : (rows : Rows B) (j : Job B) (line : InputLine) → length (with_line rows j line).inputs + length (with_line rows j line).missing ≡ length j.inputs + length j.missing + 1
+  line_counts rows j (Named p) = named_counts p j (object_at rows p)
+  line_counts rows j (Other text) = let more = length-append j.missing (Other text ∷ []) in omega (arith, more)
 
   named_sound : (p : AccountPath) (j : Job B) → IsOpen j → Sound j → (o : Option (Object B)) → IsOpen (with_named p j o) × Sound (with_named p j o)
   named_sound p j o s None = (record { ended = o.ended; done = o.done }, sound_missing j (j.missing ++ Named p ∷ []) o s)
@@ -218,11 +248,13 @@ module _ {B : Type 0} where
       let first = line_sound rows j o s line in
       lines_sound rows lines (with_line rows j line) first.0 first.1
 
-  pub lines_good : (n : ℕ) (rows : Rows B) → LawfulRows n rows → (lines : List InputLine) (j : Job B) → LawfulJob n j → IsOpen j → TakesLines n j (with_lines rows lines j)
-  lines_good n rows law [] j job o = record { law = job; opened = o; number = refl }
-  lines_good n rows law (line ∷ lines) j job o =
-      let first = line_case n rows law j job o line in
-      let rest = lines_good n rows law lines (with_line rows j line) first.law first.opened in
+  pub lines_good : (n : ℕ) (rows : Rows B) → LawfulRows n rows → (lines : List InputLine) (j : Job B) → LawfulJob n j → IsOpen j → AllByRecursion IsWellMadeLine lines
+      → length j.inputs + length j.missing + length lines ≤ most_inputs → TakesLines n j (with_lines rows lines j)
+  lines_good n rows law [] j job o made room = record { law = job; opened = o; number = refl }
+  lines_good n rows law (line ∷ lines) j job o made room =
+      let first = line_case n rows law j job o line made.0 (omega (arith, room)) in
+      let counts = line_counts rows j line in
+      let rest = lines_good n rows law lines (with_line rows j line) first.law first.opened made.1 (omega (arith, room, counts)) in
       record { law = rest.law; opened = rest.opened; number = rest.number ∙ first.number }
 
   -- and for any job they keep its number, and whether it is done

@@ -33,6 +33,9 @@ module _ {B : Type 0} where
   LawfulJob-later m n later j law = record {
     number = record { first = law.number.first; below = IsBelow-later m n j.number later law.number.below };
     positions = All-weaker (λ e. e.position < m) (λ e. e.position < n) (λ e b. omega arith) j.trace law.positions;
+    few = law.few;
+    missing = law.missing;
+    few_each = law.few_each;
     inputs = law.inputs;
     outputs = law.outputs;
     document = law.document;

@@ -1,5 +1,5 @@
 -- A state with one more job stays lawful.
-use Rattle.std.proofs.Common.{◌≡◌, ℕ, ◌+◌, ◌^◌, ◌<◌, Bool, true, false, cond, not, ◌&&◌, ◌||◌, List, [], ◌∷◌, ◌++◌, length, map, Option, Some, None, refl, sym, ap, subst, ◌∙◌, arith, true≢false, codes, bytes_eq, suc}
+use Rattle.std.proofs.Common.{◌≡◌, ℕ, ◌+◌, ◌^◌, ◌<◌, ◌≤◌, Bool, true, false, cond, not, ◌&&◌, ◌||◌, List, [], ◌∷◌, ◌++◌, length, map, Option, Some, None, refl, sym, ap, subst, ◌∙◌, arith, true≢false, codes, bytes_eq, suc}
 use Rattle.std.specs.Prelude.{All, is_some}
 use Rattle.std.specs.Cmp.{nat_cmp_is}
 use Rattle.std.specs.List.{AllByRecursion, cons_option, filter_map, find, list_all, list_any}
@@ -21,7 +21,7 @@ use Rattle.mt_types.specs.declared.object.Entry.{Entry}
 use Rattle.mt_types.specs.declared.object.Entry.TheVariants as entry
 use Rattle.mt_types.specs.declared.object.Object.{Object}
 use Rattle.mt_model.specs.JobSteps.{archive_names, bodies_of, lacks_asset, new_job, with_folders}
-use Rattle.mt_model.specs.Lawful.{HasFolders, HasRoot, IsBelow, LawfulJob, LawfulJobs, LawfulRows, fits_below, fits_in_folder, job_named}
+use Rattle.mt_model.specs.Lawful.{HasFolders, LawfulItem, IsBelow, LawfulJob, LawfulJobs, LawfulRows, fits_below, fits_in_folder, job_named}
 use Rattle.mt_model.specs.Feed.{items_of}
 use Rattle.mt_types.specs.declared.limits.TheConstants.{MOST_COMMANDS}
 use Rattle.mt_model.specs.Names.{in_job_folder, job_folder, job_name, job_stor, number_at}
@@ -322,8 +322,11 @@ module _ {B : Type 0} (count : ℕ) (rows : Rows B) (jobs : List (Job B)) (law :
   lawful_new = record {
     number = record { first = omega arith; below = omega arith };
     positions = All-nil (λ e. e.position < count + 1);
-    inputs = All-nil HasRoot;
-    outputs = All-nil (λ e. All HasRoot (items_of e.outcome));
+    few = omega arith;
+    missing = tt;
+    few_each = All-nil (λ e. length (items_of e.outcome) ≤ 4095);
+    inputs = All-nil LawfulItem;
+    outputs = All-nil (λ e. All LawfulItem (items_of e.outcome));
     document = is_document;
     assets = all_assets rows document.phases none_lacks;
     sound = sound_new;

@@ -1,7 +1,8 @@
 -- Each of these commands keeps a state lawful, where it is allowed.
-use Rattle.std.proofs.Common.{◌≡◌, ℕ, ◌+◌, ◌<◌, ◌≤◌, Bool, true, false, cond, List, [], ◌∷◌, Option, Some, None, refl, sym, ap, subst, ◌∙◌, arith}
+use Rattle.std.proofs.Common.{◌≡◌, ℕ, ◌+◌, ◌<◌, ◌≤◌, Bool, true, false, cond, List, [], ◌∷◌, length, Option, Some, None, refl, sym, ap, subst, ◌∙◌, arith}
+use Rattle.std.proofs.lemmas.Bool.{ltb-false}
 use Rattle.std.specs.Prelude.{All, IsSome, nat_lt, not}
-use Rattle.std.specs.List.{enumerate_from, list_all, sum_by}
+use Rattle.std.specs.List.{AllByRecursion, enumerate_from, list_all, sum_by}
 use Rattle.std.specs.Option.{unwrap_or}
 use Rattle.std.proofs.lemmas.List.Elements.{All-nil, All-cons, All-head, All-tail}
 use Rattle.mt_path.specs.AccountPath.{AccountPath, IsPath, root_of}
@@ -10,7 +11,7 @@ use Rattle.mt_path.specs.declared.area.Area.TheVariants.{Stor, Public, Jobs}
 use Rattle.mt_types.specs.declared.command.Command.TheVariants.{Put, MakeDirectory, Link, Delete, NewJob, AddInputs, EndInput, Commit, Finish, Cancel, Close, NewUpload, PutPart, CommitUpload, AbortUpload}
 use Rattle.mt_types.specs.declared.command.Archive.{Archive}
 use Rattle.mt_types.specs.declared.document.InputLine.{InputLine}
-use Rattle.mt_types.specs.WellMade.{IsDocument, IsWellMadeFate}
+use Rattle.mt_types.specs.WellMade.{IsDocument, IsWellMadeFate, IsWellMadeLine}
 use Rattle.mt_types.specs.declared.document.JobDocument.{JobDocument}
 use Rattle.mt_types.specs.declared.job.Job.{Job}
 use Rattle.mt_types.specs.declared.object.Entry.{Entry}
@@ -28,10 +29,12 @@ use Rattle.mt_model.specs.CommandStep.{allowed, change, linked, put_object, step
 use Rattle.mt_model.specs.JobSteps.{add_inputs_refusal, archive_bodies, close, close_refusal, commit, commit_refusal, done_at, job_refusal, resolve_task, task_root, with_entry, finish_refusal, input_refusal, running_refusal, with_end, with_lines}
 use Rattle.mt_model.specs.Lawful.{HasFolders, IsBelow, Lawful, LawfulJob, LawfulRows, LawfulUpload}
 use Rattle.mt_types.specs.declared.limits.TheConstants.{LARGEST_BODY, MOST_COMMANDS}
+use Rattle.mt_model.specs.Limits.{most_inputs}
 use Rattle.mt_model.specs.Names.{number_at}
 use Rattle.mt_model.specs.Rows.{Rows, at, first_refusal, first_rows, is_path, link_refusal, object_at, object_in, put_refusal, refuse_if, with_row, without_row}
 use Rattle.mt_model.specs.State.{State, first_state, job_at, upload_at, with_job}
 use Rattle.mt_model.specs.UploadSteps.{commit_upload, commit_upload_refusal, is_jobs, is_listed, is_open, listed, upload_object, upload_refusal}
+use Rattle.mt_model.proofs.FewOutputs.{few_outputs}
 use Rattle.mt_model.proofs.LawfulEnds.{KeepsJob-done, LawfulJob-closed, LawfulJob-cancelled, LawfulJob-finished}
 use Rattle.mt_model.proofs.LawfulClose.{LawfulJobs-closed, LawfulRows-closed, job_in, named}
 use Rattle.mt_model.proofs.LawfulCommit.{LawfulJob-entry, resolve_good, task_good}
@@ -140,12 +143,12 @@ module _ {B : Type 0} (size : B → ℕ) (s : State B) (law : Lawful s) where
         uploads = LawfulUploads-later s.count (s.count + 1) later s.uploads law.uploads;
       }
 
-  pub Lawful-add_inputs : (job : ℕ) (lines : List InputLine) (moment : ℕ) → allowed size s (AddInputs job lines moment) ≡ None → Lawful (step s (AddInputs job lines moment))
+  pub Lawful-add_inputs : (job : ℕ) (lines : List InputLine) (moment : ℕ) → AllByRecursion IsWellMadeLine lines → allowed size s (AddInputs job lines moment) ≡ None → Lawful (step s (AddInputs job lines moment))
   unfolding allowed change step
-  Lawful-add_inputs job lines moment e =
+  Lawful-add_inputs job lines moment made e =
       job_changed job (with_lines s.rows lines) (KeepsJob-lines s.rows lines)
       (both (LawfulJob s.count) (λ j. j.number ≡ job → add_inputs_refusal lines j ≡ None) (λ j. j.number ≡ job → LawfulJob s.count (with_lines s.rows lines j))
-      (λ j l none same. (lines_good s.count s.rows law.rows lines j l (open-allowed j (neither _ _ (none same)).0)).law)
+      (λ j l none same. (lines_good s.count s.rows law.rows lines j l (open-allowed j (neither _ _ (none same)).0) made (ltb-false most_inputs (length j.inputs + length j.missing + length lines) (not_refused _ _ (neither _ _ (none same)).1))).law)
       s.jobs law.jobs.each (found job (add_inputs_refusal lines) s.jobs law.jobs.rising e))
 
   pub Lawful-end_input : (job moment : ℕ) → allowed size s (EndInput job moment) ≡ None → Lawful (step s (EndInput job moment))
@@ -264,7 +267,7 @@ module _ {B : Type 0} (size : B → ℕ) (s : State B) (law : Lawful s) where
         rows = end_good.whole.rows_are;
         jobs = LawfulJobs-changed j.number (with_entry x) (KeepsJob-entry x) (s.count + 1) r.rows s.jobs end_good.whole.jobs_are
             (both (LawfulJob s.count) (λ y. y.number ≡ number → commit_refusal phase place y ≡ None) (λ y. y.number ≡ j.number → LawfulJob (s.count + 1) (with_entry x y))
-            (λ y ly free is. LawfulJob-entry s.count y x (free (is ∙ same)) refl end_good.items ly) s.jobs law.jobs.each none);
+            (λ y ly free is. LawfulJob-entry s.count y x (free (is ∙ same)) refl end_good.items (few_outputs (record { job = j.number; phase = phase; root = task_root j phase place; position = s.count; moment = moment }) s.rows f made) ly) s.jobs law.jobs.each none);
         uploads = LawfulUploads-later s.count (s.count + 1) later s.uploads law.uploads;
       }
 

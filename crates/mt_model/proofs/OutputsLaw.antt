@@ -8,11 +8,9 @@ use Rattle.mt_ident.specs.Identifiers.{identifier_number}
 use Rattle.mt_path.specs.AccountPath.{AccountPath}
 use Rattle.mt_path.specs.declared.area.Area.TheVariants.{Jobs}
 use Rattle.mt_types.specs.WellMade.{IsWellMade, IsWellMadeFate}
-use Rattle.mt_types.specs.declared.body.Body.{Body}
 use Rattle.mt_types.specs.declared.command.Command.{Command}
 use Rattle.mt_types.specs.declared.command.Command.TheVariants.{Put, MakeDirectory, Link, Delete, NewJob, AddInputs, EndInput, Commit, Finish, Cancel, Close, NewUpload, PutPart, CommitUpload, AbortUpload}
 use Rattle.mt_types.specs.declared.document.InputLine.{InputLine}
-use Rattle.mt_types.specs.declared.job.Item.{Item}
 use Rattle.mt_types.specs.declared.job.Job.{Job}
 use Rattle.mt_types.specs.declared.job.TraceEntry.{TraceEntry}
 use Rattle.mt_types.specs.declared.limits.TheConstants.{MOST_COMMANDS}
@@ -29,6 +27,7 @@ use Rattle.mt_model.specs.Laws.{TakenFrom}
 use Rattle.mt_model.specs.Names.{ends_in_output, in_job_folder, job_folder, job_stor, number_at, output_path}
 use Rattle.mt_model.specs.Resolve.{Committing, Resolved}
 use Rattle.mt_model.specs.Rows.{Rows, at, object_at, object_in, with_row, without_row}
+use Rattle.mt_model.specs.Stays.{OutputsHaveBodies, OutputsStay}
 use Rattle.mt_model.specs.State.{State, first_state, job_at, upload_at}
 use Rattle.mt_model.specs.UploadSteps.{commit_upload, is_jobs}
 use Rattle.mt_model.proofs.EachStep.{changed, pushed}
@@ -100,7 +99,7 @@ module _ {B : Type 0} where
   entry_case (Some (entry.Directory mtime)) o is = cc
   entry_case (Some (entry.Object x)) o is = ap (λ y. option_map entry.Object y) is
 
-  numbered_start : (s : State B) → Lawful s → Numbered (number_at s.count 0) s.rows
+  pub numbered_start : (s : State B) → Lawful s → Numbered (number_at s.count 0) s.rows
   numbered_start s law id name o ends is = (
     fits_case (job_named s.jobs id) name o ends (law.jobs.entries id (codes "stor" ∷ name ∷ []) (entry.Object o) (entry_case (at s.rows (output_path id name)) o is)),
     (let below = law.rows.numbers (output_path id name) o is in omega (arith, below)),
@@ -184,21 +183,6 @@ module _ {B : Type 0} (size : B → ℕ) (s : State B) (law : Lawful s) (room : 
   unfolding step
   step_held c made e = let h = change_held c made e in record { stays = h.stays; held = h.held }
 
-pub history_held : (s : State Body) (h : List (Command Body)) → Lawful s → AllHeld s.rows s.jobs → TakenFrom s h → Held s.rows (replay s h)
-unfolding TakenFrom replay
-history_held s [] law all taken = record { stays = λ id name o ends is. is; held = all }
-history_held s (c ∷ cs) law all taken =
-    let one = step_held (λ b. b.len) s law taken.0 all c taken.1 taken.2 in
-    let rest = history_held (step s c) cs (lawful_step (λ b. b.len) s c law taken.0 taken.1 taken.2) one.held taken.3 in
-    record { stays = λ id name o ends is. rest.stays id name o ends (one.stays id name o ends is); held = rest.held }
-
--- of a history from the first state on
-pub outputs_held : (h : List (Command Body)) → TakenFrom first_state h → AllHeld (replay first_state h).rows (replay first_state h).jobs
-outputs_held h taken = (history_held first_state h (Lawful-first_state Body) tt taken).held
-
-pub outputs_stay : (h more : List (Command Body)) → TakenFrom first_state h → TakenFrom (replay first_state h) more → Stays (replay first_state h).rows (replay (replay first_state h) more).rows
-outputs_stay h more taken next = (history_held (replay first_state h) more (lawful_taken first_state h (Lawful-first_state Body) taken) (outputs_held h taken) next).stays
-
 one_of : {X : Type 0} (P : X → Type 0) (xs : List X) (k : ℕ) (d : X) → AllByRecursion P xs → k < length xs → P (slice_index_or xs k d)
 one_of P [] k d all less = absurd (omega (arith, less))
 one_of P (x ∷ xs) zero d all less = all.0
@@ -207,12 +191,26 @@ one_of P (x ∷ xs) (suc k) d all less = one_of P xs k d all.1 (omega (arith, le
 contained : {X : Type 0} (P : X → Type 0) (xs : List X) (x : X) → AllByRecursion P xs → Contains xs x → P x
 contained P xs x all c = subst P c.2 (one_of P xs c.0 x all c.1)
 
-pub output_body : (h : List (Command Body)) → TakenFrom first_state h → (job : Job Body) (e : TraceEntry Body) (i : Item Body)
-    → Contains (replay first_state h).jobs job → Contains job.trace e → Contains (items_of e.outcome) i → (id name : List ℕ) → ends_in_output name ≡ true → i.name ≡ output_path id name
-    → option_map (λ o. o.body) (object_at (replay first_state h).rows i.name) ≡ Some i.body
-output_body h taken job e i at_job at_e at_i id name ends is =
-    let rows : Rows Body = (replay first_state h).rows in
-    let of_job : JobHeld rows job = contained (JobHeld rows) (replay first_state h).jobs job (outputs_held h taken) at_job in
-    let of_entry : AllByRecursion (IsHeld rows) (items_of e.outcome) = contained (λ (x : TraceEntry Body). AllByRecursion (IsHeld rows) (items_of x.outcome)) job.trace e of_job at_e in
-    let has = contained (IsHeld rows) (items_of e.outcome) i of_entry at_i id name ends is in
-    ap (λ p. option_map (λ o. o.body) (object_at rows p)) is ∙ ap (λ x. option_map (λ o. o.body) x) has.there ∙ ap Some has.is
+module _ {B : Type 0} (size : B → ℕ) where
+  history_held : (s : State B) (h : List (Command B)) → Lawful s → AllHeld s.rows s.jobs → TakenFrom size s h → Held s.rows (replay s h)
+  unfolding TakenFrom replay
+  history_held s [] law all taken = record { stays = λ id name o ends is. is; held = all }
+  history_held s (c ∷ cs) law all taken =
+      let one = step_held size s law taken.0 all c taken.1 taken.2 in
+      let rest = history_held (step s c) cs (lawful_step size s c law taken.0 taken.1 taken.2) one.held taken.3 in
+      record { stays = λ id name o ends is. rest.stays id name o ends (one.stays id name o ends is); held = rest.held }
+
+  -- of a history from the first state on
+  outputs_held : (h : List (Command B)) → TakenFrom size first_state h → AllHeld (replay first_state h).rows (replay first_state h).jobs
+  outputs_held h taken = (history_held first_state h (Lawful-first_state B) tt taken).held
+
+  pub outputs_stay : OutputsStay size
+  outputs_stay h more taken next = (history_held (replay first_state h) more (lawful_taken size first_state h (Lawful-first_state B) taken) (outputs_held h taken) next).stays
+
+  pub outputs_have_bodies : OutputsHaveBodies size
+  outputs_have_bodies h taken job e i at_job at_e at_i id name ends is =
+      let rows : Rows B = (replay first_state h).rows in
+      let of_job : JobHeld rows job = contained (JobHeld rows) (replay first_state h).jobs job (outputs_held h taken) at_job in
+      let of_entry : AllByRecursion (IsHeld rows) (items_of e.outcome) = contained (λ (x : TraceEntry B). AllByRecursion (IsHeld rows) (items_of x.outcome)) job.trace e of_job at_e in
+      let has = contained (IsHeld rows) (items_of e.outcome) i of_entry at_i id name ends is in
+      ap (λ p. option_map (λ o. o.body) (object_at rows p)) is ∙ ap (λ x. option_map (λ o. o.body) x) has.there ∙ ap Some has.is

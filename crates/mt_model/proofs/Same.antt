@@ -1,5 +1,5 @@
 -- What a task was run with and read is what stands at its place at the end.
-use Rattle.std.proofs.Common.{◌≡◌, ℕ, ◌<◌, true, List, [], ◌∷◌, ◌++◌, length, Option, Some, refl, sym, ap, subst, ◌∙◌, arith, zero, suc}
+use Rattle.std.proofs.Common.{◌≡◌, ℕ, ◌<◌, true, List, [], ◌∷◌, ◌++◌, length, map, Option, Some, refl, sym, ap, subst, ◌∙◌, arith, zero, suc}
 use Rattle.std.specs.Prelude.{take, drop}
 use Rattle.std.specs.List.{slice_get, flat_map}
 use Rattle.std.specs.Option.{unwrap_or, option_map}
@@ -28,7 +28,7 @@ take_front k [] ys less = absurd (omega arith)
 take_front zero (x ∷ xs) ys less = refl
 take_front (suc k) (x ∷ xs) ys less = take_front k xs ys (omega arith)
 
-get_front : {X : Type 0} (k : ℕ) (xs ys : List X) → k < length xs → slice_get (xs ++ ys) k ≡ slice_get xs k
+pub get_front : {X : Type 0} (k : ℕ) (xs ys : List X) → k < length xs → slice_get (xs ++ ys) k ≡ slice_get xs k
 get_front k [] ys less = absurd (omega arith)
 get_front zero (x ∷ xs) ys less = refl
 get_front (suc k) (x ∷ xs) ys less = get_front k xs ys (omega arith)
@@ -49,14 +49,14 @@ abbrev like : Job Bytes → JobDocument → List (Item Bytes) → List (TraceEnt
 like j d inputs trace = record j { document = d; inputs = inputs; trace = trace }
 
 module _ (j : Job Bytes) (k : ℕ) (job : Job Bytes) (e : IsEarlier j k job) where
-  feed_front : (n : ℕ) → (more : List (Item Bytes)) × (feed job n ≡ feed j n ++ more)
+  pub feed_front : (n : ℕ) → (more : List (Item Bytes)) × (feed job n ≡ feed j n ++ more)
   feed_front zero = (e.more, e.inputs)
   feed_front (suc n) = (
     items_in (entries_of n (drop k job.trace)),
     items_front n k job.trace ∙ ap (λ t. items_in (entries_of n t) ++ items_in (entries_of n (drop k job.trace))) (sym e.trace),
   )
 
-  feed_same : Sound job → (n : ℕ) → j.ended ≡ true → complete_before j n ≡ true → feed job n ≡ feed j n
+  pub feed_same : Sound job → (n : ℕ) → j.ended ≡ true → complete_before j n ≡ true → feed job n ≡ feed j n
   feed_same s n ended all =
       let a : complete_before (like j job.document j.inputs j.trace) n ≡ true = subst (λ d. complete_before (like j d j.inputs j.trace) n ≡ true) e.document all in
       let b : complete_before (like j job.document job.inputs j.trace) n ≡ true = subst (λ i. complete_before (like j job.document i j.trace) n ≡ true) (sym (e.all_in ended)) a in
@@ -86,7 +86,7 @@ module _ (j : Job Bytes) (k : ℕ) (job : Job Bytes) (e : IsEarlier j k job) whe
       record {
         root = ap (λ items. root_at Map items place) f.1 ∙ ap (λ o. unwrap_or (option_map (λ i. i.root) o) []) (get_front place (feed j n) f.0 less);
         object = λ login. ap (λ items. object_read login Map items place) f.1 ∙ ap (λ o. option_map (λ i. path_text login i.name) o) (get_front place (feed j n) f.0 less);
-        input = ap (λ items. input_of itself Map items place) f.1 ∙ ap (λ items. flat_map (λ i. itself i.body) items) (take_front place (feed j n) f.0 less);
+        input = ap (λ items. input_of itself Map items place) f.1 ∙ ap (λ items. flat_map (λ (i : Item Bytes). itself i.body) (map (λ (q : ℕ × Item Bytes). q.1) (map (λ i. (place, i)) items))) (take_front place (feed j n) f.0 less);
       }
 
   pub same_at : Sound job → (n place : ℕ) (p : Phase) → is_task_of j n place (Some p) ≡ true → SameAt p.kind n place

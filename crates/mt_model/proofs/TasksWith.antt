@@ -18,9 +18,10 @@ use Rattle.mt_model.specs.Feed.{entries_of, feed, items_in, items_of}
 use Rattle.mt_model.specs.Names.{job_stor, output_prefix}
 use Rattle.mt_model.specs.Tasks.{all_complete, assets_of, input_of, is_committed, is_complete, is_ready, is_running, is_task, is_task_of, items_read, may_begin, may_run, object_read, phases_of, task_count, ready, reducer_at, reducer_of, root_at, run_in, run_of, share, task_of, waits_finish}
 use Rattle.mt_model.proofs.Maps.{drop-map, enumerate-map, filter-map, flat_map-map, length-map, list_any-map, map-flat_map, map-map, same_function, slice_get-map, take-map, zip-map}
+use Rattle.mt_model.proofs.Shares.{map_reads}
 
 module _ {A B : Type 0} (f : A → B) where
-  outcome_items : (o : Outcome A) → items_of (outcome_with f o) ≡ map (item_with f) (items_of o)
+  pub outcome_items : (o : Outcome A) → items_of (outcome_with f o) ≡ map (item_with f) (items_of o)
   outcome_items (Good items) = refl
   outcome_items (Bad failure status stderr) = refl
 
@@ -157,7 +158,11 @@ module _ {A B : Type 0} (f : A → B) where
     run_of-with login j phase place = ap (λ h. option_map h (slice_get j.document.phases phase)) (same_function _ _ (run_in-with login j phase place))
 
     read_cases : (kind : PhaseKind) (items : List (Item A)) (place : ℕ) → items_read kind (map (item_with f) items) place ≡ map (item_with f) (items_read kind items place)
-    read_cases Map items place = ap (take 1) (drop-map (item_with f) place items) ∙ take-map (item_with f) 1 (drop place items)
+    read_cases Map items place =
+        map_reads (map (item_with f) items) place
+        ∙ ap (take 1) (drop-map (item_with f) place items)
+        ∙ take-map (item_with f) 1 (drop place items)
+        ∙ ap (map (item_with f)) (sym (map_reads items place))
     read_cases (Reduce count) items place = share-with items count place
 
     -- and reads the same

@@ -1,6 +1,6 @@
 -- Each command that says what is within the limits keeps the values of a state within them.
-use Rattle.std.proofs.Common.{◌≡◌, ℕ, ◌==◌, Bool, true, false, List, [], ◌∷◌, Option, Some, None, refl, arith}
-use Rattle.std.specs.Prelude.{Result, Ok, Err, IsTrue, ⊤}
+use Rattle.std.proofs.Common.{◌≡◌, ℕ, ◌==◌, ◌<◌, ◌^◌, Bool, true, false, cond, List, [], ◌∷◌, Option, Some, None, refl, arith}
+use Rattle.std.specs.Prelude.{Result, Ok, Err, IfSome, IsTrue, ⊤}
 use Rattle.std.specs.List.{AllByRecursion}
 use Rattle.mt_path.specs.AccountPath.{AccountPath}
 use Rattle.mt_path.specs.PathOrder.{path_cmp}
@@ -17,6 +17,7 @@ use Rattle.mt_types.specs.declared.object.Object.{Object}
 use Rattle.mt_types.specs.declared.task.Fate.{Fate}
 use Rattle.mt_types.specs.declared.task.Fate.TheVariants as fate
 use Rattle.mt_types.specs.declared.task.TaskFailure.{TaskFailure}
+use Rattle.mt_types.specs.declared.task.TaskFailure.TheVariants.{TaskPlaceRefused}
 use Rattle.mt_types.specs.declared.task.TaskRecord.{TaskRecord}
 use Rattle.mt_types.specs.declared.task.TaskRecord.TheVariants.{Emit, Keep, Ref}
 use Rattle.mt_types.specs.declared.upload.Stage.{Stage}
@@ -25,9 +26,9 @@ use Rattle.mt_types.specs.declared.upload.Upload.{Upload}
 use Rattle.mt_model.specs.Bodies.{OfFate, OfRecord}
 use Rattle.mt_model.specs.CommandStep.{change, step}
 use Rattle.mt_model.specs.JobSteps.{archive_bodies, archive_names, commit, done_at, new_job, resolve_task, task_root, with_end, with_entry, with_line, with_lines, with_named}
-use Rattle.mt_model.specs.Keeping.{IsEntry, IsJob, IsLine, IsMoment, IsOutcome, IsSaid, IsSaidFate, IsUpload, KeepsLimits, SaysWithin}
-use Rattle.mt_model.specs.Names.{job_folder, job_stor, number_at}
-use Rattle.mt_model.specs.Resolve.{Committing, Resolved, Taken, resolve, resolved, take_records, task_content_type}
+use Rattle.mt_model.specs.Keeping.{IsEntry, IsItem, IsJob, IsLine, IsMoment, IsOutcome, IsSaid, IsSaidFate, IsSaidRecord, IsUpload, KeepsLimits, SaysWithin}
+use Rattle.mt_model.specs.Names.{job_folder, job_stor, number_at, root_of_input}
+use Rattle.mt_model.specs.Resolve.{Committing, Resolved, Taken, and_then, can_hold_object, fresh_place, kept, resolve, resolved, take_record, take_records, take_reference, task_content_type, with_output}
 use Rattle.mt_model.specs.Rows.{Rows, object_at, with_row}
 use Rattle.mt_model.specs.State.{State, first_state, upload_at, job_at, with_job}
 use Rattle.mt_model.specs.UploadSteps.{commit_upload, ended_as, new_upload, upload_object, with_part}
@@ -74,35 +75,72 @@ module _ {B : Type 0} where
   -- ---- jobs
 
   named_within : (p : AccountPath) (j : Job B) (o : Option (Object B)) → IsJob j → IsJob (with_named p j o)
-  named_within p j None i = record { created = i.created; done = i.done; document = i.document; missing = pushed IsLine j.missing (Named p) i.missing tt; outcomes = i.outcomes }
-  named_within p j (Some o) i = record { created = i.created; done = i.done; document = i.document; missing = i.missing; outcomes = i.outcomes }
+  named_within p j None i = record { created = i.created; done = i.done; document = i.document; inputs = i.inputs; missing = pushed IsLine j.missing (Named p) i.missing tt; outcomes = i.outcomes }
+  named_within p j (Some o) i =
+      record { created = i.created; done = i.done; document = i.document; inputs = pushed IsItem j.inputs (record { name = p; root = root_of_input p; body = o.body; reducer = None }) i.inputs tt; missing = i.missing; outcomes = i.outcomes }
 
   line_within : (rows : Rows B) (j : Job B) (line : InputLine) → IsJob j → IsLine line → IsJob (with_line rows j line)
   line_within rows j (Named p) i is = named_within p j (object_at rows p) i
-  line_within rows j (Other t) i is = record { created = i.created; done = i.done; document = i.document; missing = pushed IsLine j.missing (Other t) i.missing is; outcomes = i.outcomes }
+  line_within rows j (Other t) i is = record { created = i.created; done = i.done; document = i.document; inputs = i.inputs; missing = pushed IsLine j.missing (Other t) i.missing is; outcomes = i.outcomes }
 
   lines_within : (rows : Rows B) (lines : List InputLine) (j : Job B) → IsJob j → AllByRecursion IsLine lines → IsJob (with_lines rows lines j)
   lines_within rows [] j i all = i
   lines_within rows (l ∷ ls) j i all = lines_within rows ls (with_line rows j l) (line_within rows j l i all.0) all.1
 
   end_within : (j : Job B) → IsJob j → IsJob (with_end j)
-  end_within j i = record { created = i.created; done = i.done; document = i.document; missing = i.missing; outcomes = i.outcomes }
+  end_within j i = record { created = i.created; done = i.done; document = i.document; inputs = i.inputs; missing = i.missing; outcomes = i.outcomes }
 
   done_within : (moment : ℕ) (cancelled : Bool) → IsMoment moment → (j : Job B) → IsJob j → IsJob (done_at moment cancelled j)
-  done_within moment cancelled now j i = record { created = i.created; done = now; document = i.document; missing = i.missing; outcomes = i.outcomes }
+  done_within moment cancelled now j i = record { created = i.created; done = now; document = i.document; inputs = i.inputs; missing = i.missing; outcomes = i.outcomes }
 
   entry_within : (e : TraceEntry B) → IsOutcome e.outcome → (j : Job B) → IsJob j → IsJob (with_entry e j)
   entry_within e is j i =
-      record { created = i.created; done = i.done; document = i.document; missing = i.missing; outcomes = pushed (λ (x : TraceEntry B). IsOutcome x.outcome) j.trace e i.outcomes is }
+      record { created = i.created; done = i.done; document = i.document; inputs = i.inputs; missing = i.missing; outcomes = pushed (λ (x : TraceEntry B). IsOutcome x.outcome) j.trace e i.outcomes is }
 
   -- ---- commits
 
-  resolved_within : (rows : Rows B) (r : Result (Taken B) TaskFailure) → IsOutcome (resolved rows r).outcome
-  resolved_within rows (Ok t) = tt
-  resolved_within rows (Err failure) = omega arith
+  abbrev SaidItems : Result (Taken B) TaskFailure → Type 0
+  SaidItems (Ok t) = AllByRecursion IsItem t.items
+  SaidItems (Err failure) = ⊤
+
+  module _ (c : Committing) where
+    output_within : (name : AccountPath) (body : B) (reducer : Option ℕ) (t : Taken B) → IfSome reducer (λ n. n < 2 ^ 32) → AllByRecursion IsItem t.items → AllByRecursion IsItem (with_output c name body reducer t).items
+    output_within name body reducer t is all = pushed IsItem t.items (record { name = name; root = c.root; body = body; reducer = reducer }) all is
+
+    emitted_within : (place : AccountPath) (body : B) (reducer : Option ℕ) (t : Taken B) → IfSome reducer (λ n. n < 2 ^ 32) → AllByRecursion IsItem t.items
+        → (b : Bool) → SaidItems (and_then (λ new. Ok (with_output c place body reducer new)) (cond b (Ok (kept c place body t)) (Err TaskPlaceRefused)))
+    emitted_within place body reducer t is all true = output_within place body reducer (kept c place body t) is all
+    emitted_within place body reducer t is all false = tt
+
+    placed_within : (place : AccountPath) (body : B) (t : Taken B) → AllByRecursion IsItem t.items → (b : Bool) → SaidItems (cond b (Ok (kept c place body t)) (Err TaskPlaceRefused))
+    placed_within place body t all true = all
+    placed_within place body t all false = tt
+
+    referred_within : (name : AccountPath) (t : Taken B) → AllByRecursion IsItem t.items → (o : Option (Object B)) → SaidItems (take_reference c name t o)
+    referred_within name t all None = tt
+    referred_within name t all (Some o) = output_within name o.body None t tt all
+
+    record_within : (t : Taken B) (r : TaskRecord B) → IsSaidRecord r → AllByRecursion IsItem t.items → SaidItems (take_record c t r)
+    record_within t (Emit None reducer body) is all = output_within (fresh_place c t) body reducer (kept c (fresh_place c t) body t) is all
+    record_within t (Emit (Some place) reducer body) is all = emitted_within place body reducer t is all (can_hold_object t.rows c.job place)
+    record_within t (Keep place body) is all = placed_within place body t all (can_hold_object t.rows c.job place)
+    record_within t (Ref name) is all = referred_within name t all (object_at t.rows name)
+
+    next_within : (r : TaskRecord B) → IsSaidRecord r → (x : Result (Taken B) TaskFailure) → SaidItems x → SaidItems (and_then (λ t. take_record c t r) x)
+    next_within r is (Ok t) all = record_within t r is all
+    next_within r is (Err failure) all = tt
+
+    records_within : (rs : List (TaskRecord B)) → AllByRecursion IsSaidRecord rs → (x : Result (Taken B) TaskFailure) → SaidItems x → SaidItems (take_records c rs x)
+    records_within [] is x all = all
+    records_within (r ∷ rs) is x all = records_within rs is.1 (and_then (λ t. take_record c t r) x) (next_within r is.0 x all)
+
+  resolved_within : (rows : Rows B) (r : Result (Taken B) TaskFailure) → SaidItems r → IsOutcome (resolved rows r).outcome
+  resolved_within rows (Ok t) all = all
+  resolved_within rows (Err failure) all = omega arith
 
   outcome_within : (c : Committing) (rows : Rows B) (x : Fate B) → IsSaidFate x → IsOutcome (resolve c rows x).outcome
   outcome_within c rows (fate.Good records) is = resolved_within rows (take_records c records (Ok (record { rows = rows; items = []; made = 0 })))
+      (records_within c records is (Ok (record { rows = rows; items = []; made = 0 })) tt)
   outcome_within c rows (fate.Bad failure status stderr) is = is
 
   commit_within : (s : State B) (o : Option (Job B)) (phase place : ℕ) (x : Fate B) (moment : ℕ) → KeepsLimits s → IsMoment moment → IsSaidFate x → KeepsLimits (commit s o phase place x moment)
@@ -152,7 +190,7 @@ module _ {B : Type 0} where
       record {
         rows = inserted IsEntry path_cmp (with_row s.rows (job_folder n) (entry.Directory moment)) (job_stor n) (entry.Directory moment)
             (inserted IsEntry path_cmp s.rows (job_folder n) (entry.Directory moment) k.rows is.0) is.0;
-        jobs = pushed IsJob s.jobs (new_job s.rows n document moment) k.jobs (record { created = is.0; done = tt; document = is.1; missing = tt; outcomes = tt });
+        jobs = pushed IsJob s.jobs (new_job s.rows n document moment) k.jobs (record { created = is.0; done = tt; document = is.1; inputs = tt; missing = tt; outcomes = tt });
         uploads = k.uploads;
       }
   change_within s (AddInputs job lines moment) k is = job_within s job (with_lines s.rows lines) (λ j i. lines_within s.rows lines j i is) k

@@ -1,14 +1,15 @@
 -- What is promised of a finished job.
-use Rattle.std.specs.Prelude.{◌≡◌, ℕ, ◌%◌, ◌==◌, Bool, true, not, ◌&&◌, is_some, ⊤, List, [], ◌∷◌, ◌++◌, length, map, Some}
-use Rattle.std.specs.List.{count_by, flat_map, slice_get, Contains}
-use Rattle.mt_model.specs.Types.{Command, Commit, Fate, Item, Job, Map, Phase, PhaseKind, Raw, Reduce, Run, TraceEntry, path_text}
+use Rattle.std.specs.Prelude.{◌≡◌, ℕ, ◌<◌, Bool, true, not, ◌&&◌, is_some, ⊤, List, [], ◌∷◌, ◌++◌, length, map}
+use Rattle.std.specs.List.{count_by, flat_map, Contains}
+use Rattle.mt_model.specs.Types.{Command, Commit, Fate, Item, Job, Phase, PhaseKind, Raw, Run, TraceEntry, path_text}
 use Rattle.mt_model.specs.CommandStep.{replay}
 use Rattle.mt_model.specs.Feed.{entries_of, feed}
 use Rattle.mt_model.specs.Honest.{Bytes, Honest, MayGive}
 use Rattle.mt_model.specs.Meaning.{Means}
-use Rattle.mt_model.specs.Resolve.{resolve}
+use Rattle.mt_model.specs.Posted.{posted_from}
+use Rattle.mt_model.specs.Resolve.{OutputsStand, resolve}
 use Rattle.mt_model.specs.State.{first_state}
-use Rattle.mt_model.specs.Tasks.{phases_of, reducer_of, root_at}
+use Rattle.mt_model.specs.Tasks.{phases_of, reads_place, root_at}
 
 module _ {B : Type 0} where
   -- a job that is done and was not cancelled
@@ -31,14 +32,9 @@ module _ {B : Type 0} where
   abbrev pub recorded : Job B → List (List (TraceEntry B))
   recorded job = map (λ p. entries_of p.0 job.trace) (phases_of job)
 
-  -- a committed task reads the item at this place of its phase's feed
-  abbrev pub reads_item : PhaseKind → ℕ × Item B → TraceEntry B → Bool
-  reads_item Map p e = e.place == p.0
-  reads_item (Reduce count) p e = reducer_of p % count == e.place
-
   -- each item of a feed is read by one of these tasks, and by one alone
   abbrev pub IsReadOnce : PhaseKind → List (Item B) → List (TraceEntry B) → Type 0
-  IsReadOnce kind items entries = (k : ℕ) (i : Item B) → slice_get items k ≡ Some i → count_by (reads_item kind (k, i)) entries ≡ 1
+  IsReadOnce kind items entries = (k : ℕ) → k < length items → count_by (λ e. reads_place kind items k e.place) entries ≡ 1
 
   -- so is each item of what each of these phases reads
   abbrev pub AreReadOnce : Job B → List (ℕ × Phase) → Type 0
@@ -47,7 +43,7 @@ module _ {B : Type 0} where
 
 module _ (login : List ℕ) (gives : Run → Bytes → Raw → Type 0) (fate_of : Raw → Fate Bytes) where
   -- an entry of the trace is what a commit of the history made of an outcome that a child may give over these items:
-  -- the account at that moment decides what its records become
+  -- the account at that moment decides what its records become, and behind the commit each output stands at its name
   pub record IsGiven (h : List (Command Bytes)) (job : Job Bytes) (phase : ℕ) (p : Phase) (items : List (Item Bytes)) (e : TraceEntry Bytes) : Type 0 where
     pub before : List (Command Bytes)
     pub after : List (Command Bytes)
@@ -58,11 +54,13 @@ module _ (login : List ℕ) (gives : Run → Bytes → Raw → Type 0) (fate_of 
     pub of_phase : e.phase ≡ phase
     pub given : MayGive login gives fate_of job phase e.place p items raw
     pub outcome : e.outcome ≡ (resolve (record { job = job.number; phase = phase; root = root_at p.kind items e.place; position = e.position; moment = moment }) (replay first_state before).rows (fate_of raw)).outcome
+    pub held : OutputsStand (replay first_state (before ++ Commit job.number phase e.place (fate_of raw) moment ∷ [])).rows (fate_of raw) e.outcome
 
-  -- the input has ended, the outputs of a job are what its phases mean over its inputs in the recorded order, and
-  -- each item is read by one task
+  -- the input has ended, the inputs of a job are what was posted, its outputs are what its phases mean over them in
+  -- the recorded order, and each item is read by one task
   pub record IsMeant (h : List (Command Bytes)) (job : Job Bytes) : Type 0 where
     pub ended : job.ended ≡ true
+    pub inputs : job.inputs ≡ posted_from first_state h job.number
     pub means : Means (IsGiven h job) 0 job.document.phases job.inputs (recorded job) (outputs_of job)
     pub once : AreReadOnce job (phases_of job)
 

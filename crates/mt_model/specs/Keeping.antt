@@ -1,7 +1,7 @@
 -- The limits that the values of a state keep, so that each can be told and written.
 use Rattle.std.specs.Prelude.{ℕ, ◌<◌, ◌≤◌, ◌^◌, IsTrue, ⊤, List, length, Option, IfSome}
 use Rattle.std.specs.List.{AllByRecursion}
-use Rattle.mt_model.specs.Types.{AddInputs, Cancel, Close, Command, Commit, CommitUpload, Entry, Fate, Field, Finish, FitsMetadata, InputLine, Job, JobDocument, LONGEST_STDERR, Link, MakeDirectory, Named, NewJob, NewUpload, Other, Outcome, Phase, Put, Upload, is_command_line, is_content_type, is_durability, is_job_name, is_line_text, is_moment}
+use Rattle.mt_model.specs.Types.{AddInputs, Cancel, Close, Command, Commit, CommitUpload, Emit, Entry, Fate, Field, Finish, FitsMetadata, InputLine, Item, Job, JobDocument, Keep, LONGEST_STDERR, Link, MakeDirectory, Named, NewJob, NewUpload, Other, Outcome, Phase, Put, Ref, TaskRecord, Upload, is_command_line, is_content_type, is_durability, is_job_name, is_line_text, is_moment}
 use Rattle.mt_types.specs.declared.job.Outcome.TheVariants as outcome
 use Rattle.mt_types.specs.declared.object.Entry.TheVariants as entry
 use Rattle.mt_types.specs.declared.task.Fate.TheVariants as fate
@@ -39,16 +39,21 @@ module _ {B : Type 0} where
   IsEntry (entry.Directory mtime) = IsMoment mtime
   IsEntry (entry.Object o) = IsSaid o.content_type o.durability o.metadata o.mtime
 
-  -- the front of standard error that a failed task left
+  -- the number of the reducer that an item names has four bytes
+  abbrev pub IsItem : Item B → Type 0
+  IsItem i = IfSome i.reducer (λ n. n < 2 ^ 32)
+
+  -- the outputs of a task, or the front of standard error that a failed one left
   abbrev pub IsOutcome : Outcome B → Type 0
-  IsOutcome (outcome.Good items) = ⊤
+  IsOutcome (outcome.Good items) = AllByRecursion IsItem items
   IsOutcome (outcome.Bad failure status stderr) = length stderr ≤ LONGEST_STDERR
 
-  -- a job: its moments and its texts
+  -- a job: its moments, its texts, and the reducers that it names
   pub record IsJob (j : Job B) : Type 0 where
     pub created : IsMoment j.created
     pub done : IfSome j.done IsMoment
     pub document : IsSaidDocument j.document
+    pub inputs : AllByRecursion IsItem j.inputs
     pub missing : AllByRecursion IsLine j.missing
     pub outcomes : AllByRecursion (λ e. IsOutcome e.outcome) j.trace
 
@@ -63,9 +68,15 @@ module _ {B : Type 0} where
     pub jobs : AllByRecursion IsJob s.jobs
     pub uploads : AllByRecursion IsUpload s.uploads
 
-  -- the same of a fate
+  -- the same of a record of a task
+  abbrev pub IsSaidRecord : TaskRecord B → Type 0
+  IsSaidRecord (Emit place reducer body) = IfSome reducer (λ n. n < 2 ^ 32)
+  IsSaidRecord (Keep place body) = ⊤
+  IsSaidRecord (Ref name) = ⊤
+
+  -- and of a fate
   abbrev pub IsSaidFate : Fate B → Type 0
-  IsSaidFate (fate.Good records) = ⊤
+  IsSaidFate (fate.Good records) = AllByRecursion IsSaidRecord records
   IsSaidFate (fate.Bad failure status stderr) = length stderr ≤ LONGEST_STDERR
 
   -- what a command brings into the state is within the limits

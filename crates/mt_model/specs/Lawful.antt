@@ -1,15 +1,16 @@
 -- What holds of every state that well made, allowed commands reach.
-use Rattle.std.specs.Prelude.{◌≡◌, ℕ, ◌-◌, ◌*◌, ◌%◌, ◌==◌, ◌<◌, ◌≤◌, Bool, true, false, not, ◌&&◌, ◌||◌, List, [], ◌∷◌, map, length, drop, bytes_eq, codes, All, Option, Some, None, IsSome, is_some}
-use Rattle.std.specs.List.{find, list_all, list_any}
+use Rattle.std.specs.Prelude.{◌≡◌, ℕ, ◌+◌, ◌-◌, ◌*◌, ◌%◌, ◌==◌, ◌<◌, ◌≤◌, Bool, true, false, not, ◌&&◌, ◌||◌, List, [], ◌∷◌, map, length, drop, bytes_eq, codes, All, Option, Some, None, IsSome, is_some}
+use Rattle.std.specs.List.{AllByRecursion, find, list_all, list_any}
 use Rattle.std.specs.List.Sorted.{IsStrictlySortedBy}
 use Rattle.std.specs.Option.{option_map_or}
 use Rattle.std.specs.Ordering.{nat_cmp}
 use Rattle.mt_ident.specs.Identifiers.{identifier_number}
-use Rattle.mt_model.specs.Types.{AccountPath, Entry, IsComponent, IsDocument, IsPath, Item, Job, Jobs, LAST_PART, NUMBERS_A_COMMAND, Object, PartRow, Upload}
+use Rattle.mt_model.specs.Types.{AccountPath, Entry, IsComponent, IsDocument, IsPath, Item, Job, Jobs, LAST_PART, MOST_RECORDS, NUMBERS_A_COMMAND, Object, PartRow, Upload}
+use Rattle.mt_types.specs.WellMade.{IsWellMadeLine}
 use Rattle.mt_types.specs.declared.object.Entry.TheVariants as entry
 use Rattle.mt_model.specs.Feed.{items_of}
 use Rattle.mt_model.specs.JobSteps.{archive_names}
-use Rattle.mt_model.specs.Limits.{longest_root}
+use Rattle.mt_model.specs.Limits.{longest_root, most_inputs}
 use Rattle.mt_model.specs.Names.{ends_in_output, in_job_folder, job_folder, job_name, job_stor}
 use Rattle.mt_model.specs.Resolve.{is_object_at}
 use Rattle.mt_model.specs.Rows.{Rows, IsTree, at, is_directory, is_root, object_at, object_in}
@@ -66,18 +67,22 @@ module _ {B : Type 0} where
     pub archive : (list_all (λ n. is_object_at rows (in_job_folder job.number n.0)) archive_names
         || list_all (λ n. not (is_some (at rows (in_job_folder job.number n.0)))) archive_names) ≡ true
 
-  -- a name of at most 200 bytes, of which the names of outputs can be made
-  pub record HasRoot (item : Item B) : Type 0 where
+  -- it is named by a path, and its root is a name of at most 200 bytes, of which the names of outputs can be made
+  pub record LawfulItem (item : Item B) : Type 0 where
+    pub name : IsPath item.name
     pub component : IsComponent item.root
     pub short : length item.root ≤ longest_root
 
-  -- its number is of a command so far, its names can be made, its document is one with a body for each asset, and its
-  -- trace is sound
+  -- its number is of a command so far, it has at most 1,000,000 inputs and missing lines, and each of its tasks at most
+  -- 4,095 outputs; its names can be made, its document is one with a body for each asset, and its trace is sound
   pub record LawfulJob (count : ℕ) (job : Job B) : Type 0 where
     pub number : IsFirstNumber count job.number
     pub positions : All (λ e. e.position < count) job.trace
-    pub inputs : All HasRoot job.inputs
-    pub outputs : All (λ e. All HasRoot (items_of e.outcome)) job.trace
+    pub few : length job.inputs + length job.missing ≤ most_inputs
+    pub inputs : All LawfulItem job.inputs
+    pub missing : AllByRecursion IsWellMadeLine job.missing
+    pub few_each : All (λ e. length (items_of e.outcome) ≤ MOST_RECORDS) job.trace
+    pub outputs : All (λ e. All LawfulItem (items_of e.outcome)) job.trace
     pub document : IsDocument job.document
     pub assets : map length job.assets ≡ map (λ p. length p.assets) job.document.phases
     pub sound : Sound job

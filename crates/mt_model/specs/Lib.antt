@@ -11,11 +11,15 @@ pub mod Resolve
 pub mod JobSteps
 pub mod UploadSteps
 pub mod CommandStep
+pub mod Posted
 pub mod Lawful
 pub mod Meaning
 pub mod Bodies
 pub mod Keeping
+pub mod Beside
 pub mod Laws
+pub mod Stays
 pub mod Honest
+pub mod Later
 pub mod Finished
 pub mod Worked

@@ -1,12 +1,13 @@
 -- What a commit makes of the records of a task.
-use Rattle.std.specs.Prelude.{ℕ, ◌+◌, Bool, not, ◌&&◌, List, [], ◌∷◌, ◌++◌, codes, Option, Some, None, is_some, Result, Ok, Err, if◌then◌else◌}
+use Rattle.std.specs.Prelude.{◌≡◌, ℕ, ◌+◌, Bool, false, not, ◌&&◌, ⊤, List, [], ◌∷◌, ◌++◌, codes, Option, Some, None, is_some, Result, Ok, Err, if◌then◌else◌}
 use Rattle.std.specs.List.{fold, list_any}
+use Rattle.std.specs.Option.{option_map}
 use Rattle.mt_model.specs.Types.{AccountPath, Emit, Fate, Item, Keep, Object, Outcome, Ref, TaskFailure, TaskObjectMissing, TaskPlaceRefused, TaskRecord}
 use Rattle.mt_types.specs.declared.job.Outcome.TheVariants as outcome
 use Rattle.mt_types.specs.declared.object.Entry.TheVariants as entry
 use Rattle.mt_types.specs.declared.task.Fate.TheVariants as fate
 use Rattle.mt_model.specs.Names.{anonymous_place, is_task_place, number_at, paths_above}
-use Rattle.mt_model.specs.Rows.{Rows, at, with_row, is_directory, object_at}
+use Rattle.mt_model.specs.Rows.{Rows, at, is_directory, is_path, object_at, with_row}
 
 -- the task that is committed: its job, its phase, what its outputs' names begin with, the position and the moment
 pub record Committing : Type 0 where
@@ -112,3 +113,35 @@ module _ {B : Type 0} where
   abbrev pub resolve : Committing → Rows B → Fate B → Resolved B
   resolve c rows (fate.Good records) = resolved rows (take_records c records (Ok (record { rows = rows; items = []; made = 0 })))
   resolve c rows (fate.Bad failure status stderr) = record { rows = rows; outcome = outcome.Bad failure status stderr }
+
+  -- ---- what stands behind a commit
+
+  -- an object of this body stands at a path
+  abbrev pub HasBodyAt : Rows B → AccountPath → B → Type 0
+  HasBodyAt rows p body = option_map (λ o. o.body) (object_at rows p) ≡ Some body
+
+  -- a record puts an object at a path that it names
+  abbrev pub puts_at : AccountPath → TaskRecord B → Bool
+  puts_at p (Emit None reducer body) = false
+  puts_at p (Emit (Some place) reducer body) = is_path place p
+  puts_at p (Keep place body) = is_path place p
+  puts_at p (Ref name) = false
+
+  -- a body stands at a path, unless a later record puts another there
+  abbrev pub HasLast : Rows B → List (TaskRecord B) → AccountPath → B → Type 0
+  HasLast rows later p body = list_any (puts_at p) later ≡ false → HasBodyAt rows p body
+
+  -- these outputs stand at their names, and what is kept beside them at its places
+  abbrev pub HaveBodies : Rows B → List (TaskRecord B) → List (Item B) → Type 0
+  HaveBodies rows [] items = items ≡ []
+  HaveBodies rows (Keep place body ∷ rs) items = HasLast rows rs place body × HaveBodies rows rs items
+  HaveBodies rows (Emit place reducer body ∷ rs) [] = ⊥
+  HaveBodies rows (Emit place reducer body ∷ rs) (i ∷ items) = HasLast rows rs i.name i.body × HaveBodies rows rs items
+  HaveBodies rows (Ref name ∷ rs) [] = ⊥
+  HaveBodies rows (Ref name ∷ rs) (i ∷ items) = HasLast rows rs i.name i.body × HaveBodies rows rs items
+
+  -- the same of the fate of a task and its outcome
+  abbrev pub OutputsStand : Rows B → Fate B → Outcome B → Type 0
+  OutputsStand rows (fate.Good records) (outcome.Good items) = HaveBodies rows records items
+  OutputsStand rows (fate.Good records) (outcome.Bad failure status stderr) = ⊤
+  OutputsStand rows (fate.Bad failure status stderr) o = ⊤

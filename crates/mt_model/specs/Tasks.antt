@@ -20,23 +20,27 @@ module _ {B : Type 0} where
   abbrev pub share_places : List (Item B) → ℕ → ℕ → List (ℕ × Item B)
   share_places items count reducer = filter (λ p. reducer_of p % count == reducer) (enumerate_from 0 items)
 
-  -- the items that it reads
+  -- their items
   abbrev pub share : List (Item B) → ℕ → ℕ → List (Item B)
   share items count reducer = map (λ p. p.1) (share_places items count reducer)
 
-  -- a reducer reads this place
-  abbrev pub holds_place : List (Item B) → ℕ → ℕ → ℕ → Bool
-  holds_place items count place reducer = list_any (λ p. p.0 == place) (share_places items count reducer)
+  -- what the task at a place of a phase reads: the places of the feed, each with its item, in order
+  abbrev pub places_read : PhaseKind → List (Item B) → ℕ → List (ℕ × Item B)
+  places_read Map items place = map (λ i. (place, i)) (take 1 (drop place items))
+  places_read (Reduce count) items place = share_places items count place
+
+  -- the items that it reads
+  abbrev pub items_read : PhaseKind → List (Item B) → ℕ → List (Item B)
+  items_read kind items place = map (λ p. p.1) (places_read kind items place)
+
+  -- the task at a place reads this place of the feed
+  abbrev pub reads_place : PhaseKind → List (Item B) → ℕ → ℕ → Bool
+  reads_place kind items k place = list_any (λ p. p.0 == k) (places_read kind items place)
 
   -- the number of tasks of a phase over a feed: one an item, or one a reducer
   abbrev pub task_count : PhaseKind → List (Item B) → ℕ
   task_count Map items = length items
   task_count (Reduce count) items = count
-
-  -- the items that the task at a place reads
-  abbrev pub items_read : PhaseKind → List (Item B) → ℕ → List (Item B)
-  items_read Map items place = take 1 (drop place items)
-  items_read (Reduce count) items place = share items count place
 
   -- what the names of its outputs begin with
   abbrev pub root_at : PhaseKind → List (Item B) → ℕ → List ℕ

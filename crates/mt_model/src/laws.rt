@@ -1,25 +1,27 @@
 //! Laws of the definitions: what holds over references holds over the bytes that they stand for, each allowed
 //! command keeps a state lawful, and finished jobs are what their phases mean.
-ghost use Rattle.std.specs.Prelude.{◌≡◌, ◌++◌, ℕ, Bool, List, Option, Some, map, true};
-ghost use Rattle.std.specs.List.{Contains};
-ghost use Rattle.std.specs.Option.{option_map};
+ghost use Rattle.std.specs.Prelude.{◌≡◌, ◌≢◌, ◌↔◌, ◌++◌, ℕ, Bool, List, Option, length, map, true};
+ghost use Rattle.std.specs.List.{AllByRecursion};
+ghost use Rattle.mt_types.specs.Kinds.{OnUploads, kind_of};
 ghost use Rattle.mt_types.specs.Limits.{is_index};
 ghost use Rattle.mt_types.specs.Values.{fate_with, item_with, job_with};
-ghost use Rattle.mt_types.specs.WellMade.{IsDocument, IsWellMadeFate};
-ghost use Rattle.mt_model.specs.Types.{AbortUpload, AccountPath, AddInputs, Archive, Body, Cancel, Close, Command, Commit, CommitUpload, Delete, EndInput, Fate, Field, Finish, InputLine, IsPath, Item, Job, JobDocument, Link, MakeDirectory, NewJob, NewUpload, Object, PhaseKind, Put, PutPart, Raw, TraceEntry};
+ghost use Rattle.mt_types.specs.WellMade.{IsDocument, IsWellMadeFate, IsWellMadeLine};
+ghost use Rattle.mt_model.specs.Types.{AbortUpload, AccountPath, AddInputs, Archive, Body, Cancel, Close, Command, Commit, CommitUpload, Delete, EndInput, Fate, Field, Finish, InputLine, IsPath, Item, Job, JobDocument, Link, MakeDirectory, NewJob, NewUpload, PhaseKind, Put, PutPart, Raw, Run};
+ghost use Rattle.mt_model.specs.Beside.{IsBesideJobs, IsBesideUploads};
 ghost use Rattle.mt_model.specs.Bodies.{OfState, resolved_with, rows_with, state_with};
 ghost use Rattle.mt_model.specs.CommandStep.{replay, step};
-ghost use Rattle.mt_model.specs.Feed.{feed, items_of};
+ghost use Rattle.mt_model.specs.Feed.{feed};
 ghost use Rattle.mt_model.specs.Finished.{FinishedJobsMean};
 ghost use Rattle.mt_model.specs.Honest.{Bytes, Honest, HonestFrom};
 ghost use Rattle.mt_model.specs.Keeping.{KeepsLimits, SaysWithin};
-ghost use Rattle.mt_model.specs.Laws.{AllowedIsRead, AllowedOfHeld, IsSharedOnce, KeepsLawful, MeaningIsRead, Reading, ReplayIsRead, TakenFrom};
+ghost use Rattle.mt_model.specs.Later.{EndedGoesOn, TasksStay};
+ghost use Rattle.mt_model.specs.Laws.{AllowedIsRead, AllowedOfHeld, IsReadByOne, IsSharedOnce, KeepsLawful, MeaningIsRead, Reading, ReplayIsRead, TakenFrom, len_of};
 ghost use Rattle.mt_model.specs.Lawful.{Lawful};
 ghost use Rattle.mt_model.specs.Listing.{listing, result_set_size};
-ghost use Rattle.mt_model.specs.Names.{ends_in_output, output_path};
 ghost use Rattle.mt_model.specs.Resolve.{Committing, resolve};
-ghost use Rattle.mt_model.specs.Rows.{Rows, object_at};
+ghost use Rattle.mt_model.specs.Rows.{Rows};
 ghost use Rattle.mt_model.specs.State.{State, first_state};
+ghost use Rattle.mt_model.specs.Stays.{ArchivesStay, OutputsHaveBodies, OutputsStay, StaysTaken, TagsAreStrong, TagsGoForGood};
 ghost use Rattle.mt_model.specs.Tasks.{input_of, ready, run_of, share, waits_finish};
 
 /// A history over references does what the same history over bytes does, and is refused for the same causes.
@@ -53,9 +55,10 @@ pub fn job_is_read()
     ensures meaning { MeaningIsRead }
 {}
 
-/// Each place of a feed lies in exactly one reducer's share.
+/// Each place of a feed is read by exactly one task of its phase.
 pub fn places_are_shared_once()
-    ensures { IsSharedOnce }
+    ensures reduce { IsSharedOnce }
+    ensures map { IsReadByOne }
 {}
 
 /// States whose bodies read the same are the same.
@@ -82,7 +85,7 @@ pub fn commands_keep_lawful()
     ensures link { (path source : AccountPath) (moment : ℕ) → IsPath path → KeepsLawful (Link path source moment) }
     ensures delete { (path : AccountPath) (moment : ℕ) → KeepsLawful (Delete path moment) }
     ensures new_job { (document : JobDocument) (moment : ℕ) → IsDocument document → KeepsLawful (NewJob document moment) }
-    ensures add_inputs { (job : ℕ) (lines : List InputLine) (moment : ℕ) → KeepsLawful (AddInputs job lines moment) }
+    ensures add_inputs { (job : ℕ) (lines : List InputLine) (moment : ℕ) → AllByRecursion IsWellMadeLine lines → KeepsLawful (AddInputs job lines moment) }
     ensures end_input { (job moment : ℕ) → KeepsLawful (EndInput job moment) }
     ensures commit { (job phase place : ℕ) (fate : Fate Body) (moment : ℕ) → IsWellMadeFate fate → KeepsLawful (Commit job phase place fate moment) }
     ensures finish { (job moment : ℕ) → KeepsLawful (Finish job moment) }
@@ -94,19 +97,75 @@ pub fn commands_keep_lawful()
     ensures abort_upload { (upload moment : ℕ) → KeepsLawful (AbortUpload upload moment) }
 {}
 
-/// A history whose commands are well made and allowed leads from a lawful state to a lawful state.
+/// A history whose commands are well made and allowed leads from a lawful state to a lawful state, over references and
+/// over bytes.
 pub fn histories_are_lawful()
-    ensures { (s : State Body) (h : List (Command Body)) → Lawful s → TakenFrom s h → Lawful (replay s h) }
+    ensures references { (s : State Body) (h : List (Command Body)) → Lawful s → TakenFrom len_of s h → Lawful (replay s h) }
+    ensures bytes { (s : State Bytes) (h : List (Command Bytes)) → Lawful s → TakenFrom length s h → Lawful (replay s h) }
+{}
+
+/// A state over references is lawful where it is over the bytes that are read for them.
+pub fn lawful_is_read()
+    ensures { (read : Reading) (s : State Body) → Lawful s ↔ Lawful (state_with read s) }
+{}
+
+/// And it is within the limits of values where it is over bytes.
+pub fn limits_are_read()
+    ensures { (read : Reading) (s : State Body) → KeepsLimits s ↔ KeepsLimits (state_with read s) }
+{}
+
+/// Uploads stand beside rows and jobs: no command on rows or jobs looks at them, or changes them.
+pub fn uploads_stand_beside()
+    ensures { (size : Body → ℕ) (c : Command Body) → kind_of c ≢ OnUploads → IsBesideUploads size c }
+{}
+
+/// And no command on uploads looks at the jobs, or changes them.
+pub fn jobs_stand_beside()
+    ensures { (size : Body → ℕ) (c : Command Body) → kind_of c ≡ OnUploads → IsBesideJobs size c }
 {}
 
 /// An object at the path of an output without a place stays, whatever commands follow; and each output of a committed
 /// task that has such a path has its body there. So those of a job keep their bodies for good.
 pub fn outputs_stay()
-    ensures stays { (h more : List (Command Body)) → TakenFrom first_state h → TakenFrom (replay first_state h) more → (id name : List ℕ) (o : Object Body) → ends_in_output name ≡ true
-        → object_at (replay first_state h).rows (output_path id name) ≡ Some o → object_at (replay (replay first_state h) more).rows (output_path id name) ≡ Some o }
-    ensures bodies { (h : List (Command Body)) → TakenFrom first_state h → (job : Job Body) (e : TraceEntry Body) (i : Item Body)
-        → Contains (replay first_state h).jobs job → Contains job.trace e → Contains (items_of e.outcome) i → (id name : List ℕ) → ends_in_output name ≡ true → i.name ≡ output_path id name
-        → option_map (λ o. o.body) (object_at (replay first_state h).rows i.name) ≡ Some i.body }
+    ensures stays { OutputsStay len_of }
+    ensures bodies { OutputsHaveBodies len_of }
+    ensures bytes_stay { OutputsStay (λ (bytes : Bytes). length bytes) }
+    ensures bytes_bodies { OutputsHaveBodies (λ (bytes : Bytes). length bytes) }
+{}
+
+/// An object of the archive of a job stays, whatever commands follow.
+pub fn archives_stay()
+    ensures references { ArchivesStay len_of }
+    ensures bytes { ArchivesStay (λ (bytes : Bytes). length bytes) }
+{}
+
+/// Objects of one number have one body, wherever and whenever they stand: an etag is strong.
+pub fn tags_are_strong()
+    ensures references { TagsAreStrong len_of }
+    ensures bytes { TagsAreStrong (λ (bytes : Bytes). length bytes) }
+{}
+
+/// A number that left a path comes back there by a link alone: a put that asks for it is taken once.
+pub fn tags_go_for_good()
+    ensures references { TagsGoForGood len_of }
+    ensures bytes { TagsGoForGood (λ (bytes : Bytes). length bytes) }
+{}
+
+/// Where something stands, something stands until it is removed: a put that asks for nothing there is taken once.
+pub fn stays_taken()
+    ensures references { StaysTaken len_of }
+    ensures bytes { StaysTaken (λ (bytes : Bytes). length bytes) }
+{}
+
+/// A command that is well made and allowed leaves each task of a job what it is, what it is run with and what it reads.
+pub fn tasks_stay()
+    ensures { TasksStay }
+{}
+
+/// A job that runs, whose input has ended and of which no task is ready, waits to be finished.
+pub fn ended_goes_on()
+    ensures references { EndedGoesOn Body }
+    ensures bytes { EndedGoesOn Bytes }
 {}
 
 /// What starts children.
@@ -120,7 +179,8 @@ pub trait Children {
 }
 
 /// In each honest history each job that is done and was not cancelled has as outputs exactly what its phases mean over
-/// its inputs, in the order of the commits: each task committed once, and each item read by one task.
+/// its inputs, in the order of the commits: each task committed once, each item read by one task. Its inputs are what
+/// was posted, and behind each commit the outputs stand at their names.
 pub fn finished_jobs_mean<P: Children>(children: &P)
     ensures { (login : List ℕ) (fate_of : Raw → Fate Bytes) → FinishedJobsMean login (P.gives children.now) fate_of }
 {
@@ -128,15 +188,25 @@ pub fn finished_jobs_mean<P: Children>(children: &P)
 }
 
 /// An honest history leaves a lawful state. Honest histories go on from where an honest one leads, and each front and
-/// each rest of one is honest.
+/// each rest of one is honest; its commands are well made and allowed, and there is room for each.
 pub fn honest_histories<P: Children>(children: &P)
     ensures lawful { (login : List ℕ) (fate_of : Raw → Fate Bytes) (h : List (Command Bytes)) → Honest login (P.gives children.now) fate_of h → Lawful (replay first_state h) }
     ensures grows { (login : List ℕ) (fate_of : Raw → Fate Bytes) (s : State Bytes) (h cs : List (Command Bytes))
         → HonestFrom login (P.gives children.now) fate_of s h → HonestFrom login (P.gives children.now) fate_of (replay s h) cs → HonestFrom login (P.gives children.now) fate_of s (h ++ cs) }
     ensures fronts { (login : List ℕ) (fate_of : Raw → Fate Bytes) (s : State Bytes) (h cs : List (Command Bytes))
         → HonestFrom login (P.gives children.now) fate_of s (h ++ cs) → HonestFrom login (P.gives children.now) fate_of s h }
+    ensures taken { (login : List ℕ) (fate_of : Raw → Fate Bytes) (s : State Bytes) (h : List (Command Bytes)) → HonestFrom login (P.gives children.now) fate_of s h → TakenFrom length s h }
     ensures rests { (login : List ℕ) (fate_of : Raw → Fate Bytes) (s : State Bytes) (h cs : List (Command Bytes))
         → HonestFrom login (P.gives children.now) fate_of s (h ++ cs) → HonestFrom login (P.gives children.now) fate_of (replay s h) cs }
 {
     let _ = children;
+}
+
+/// A history that is honest for some children is so for children that may give more.
+pub fn honest_wider<P: Children, Q: Children>(few: &P, more: &Q)
+    ensures { (login : List ℕ) (fate_of : Raw → Fate Bytes) → ((run : Run) (input : Bytes) (raw : Raw) → P.gives few.now run input raw → Q.gives more.now run input raw)
+        → (s : State Bytes) (h : List (Command Bytes)) → HonestFrom login (P.gives few.now) fate_of s h → HonestFrom login (Q.gives more.now) fate_of s h }
+{
+    let _ = few;
+    let _ = more;
 }

@@ -22,7 +22,7 @@ pub use area::Area;
 pub use component::{is_component, is_login};
 pub use error::PathError;
 pub use key::{behind_first, first_part};
-pub use limits::{LONGEST_COMPONENT, LONGEST_LOGIN, LONGEST_PATH};
+pub use limits::{LONGEST_COMPONENT, LONGEST_LOGIN, LONGEST_PATH, constants_are};
 pub use mt_base::{Bytes, Duplicate, Sequence, Text};
 pub use names::target_names;
 pub use path::Path;

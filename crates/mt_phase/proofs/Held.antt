@@ -1,5 +1,5 @@
 -- What holds of each body of a job holds of each body that a task reads, and of its assets.
-use Rattle.std.proofs.Common.{ℕ, zero, suc, ◌+◌, ◌%◌, ◌==◌, Bool, true, false, cond, List, [], ◌∷◌, ◌++◌, map, take, drop}
+use Rattle.std.proofs.Common.{ℕ, sym, subst, zero, suc, ◌+◌, ◌%◌, ◌==◌, Bool, true, false, cond, List, [], ◌∷◌, ◌++◌, map, take, drop}
 use Rattle.std.specs.List.{AllByRecursion, enumerate_from, filter, slice_get, zip}
 use Rattle.std.specs.Option.{unwrap_or}
 use Rattle.mt_types.specs.declared.document.PhaseKind.{PhaseKind}
@@ -12,6 +12,7 @@ use Rattle.mt_types.specs.declared.job.TraceEntry.{TraceEntry}
 use Rattle.mt_model.specs.Bodies.{OfItems, OfJob, OfOutcome}
 use Rattle.mt_model.specs.Feed.{entries_of, feed, items_in, items_of}
 use Rattle.mt_model.specs.Tasks.{items_read, reducer_of}
+use Rattle.mt_model.proofs.Shares.{map_reads}
 
 module _ {X : Type 0} (P : X → Type 0) where
   all_taken : (n : ℕ) (xs : List X) → AllByRecursion P xs → AllByRecursion P (take n xs)
@@ -70,7 +71,8 @@ module _ {B : Type 0} (P : B → Type 0) where
   feed_held j (suc phase) held = entries_held (entries_of phase j.trace) (all_kept (λ e. OfOutcome P e.outcome) (λ e. e.phase == phase) j.trace held.trace)
 
   pub read_held : (kind : PhaseKind) (items : List (Item B)) (place : ℕ) → OfItems P items → OfItems P (items_read kind items place)
-  read_held Map items place all = all_taken (λ i. P i.body) 1 (drop place items) (all_dropped (λ i. P i.body) place items all)
+  read_held Map items place all =
+      subst (OfItems P) (sym (map_reads items place)) (all_taken (λ i. P i.body) 1 (drop place items) (all_dropped (λ i. P i.body) place items all))
   read_held (Reduce count) items place all =
       all_second (λ i. P i.body) (filter (λ p. reducer_of p % count == place) (enumerate_from 0 items))
       (all_kept (λ p. P p.1.body) (λ p. reducer_of p % count == place) (enumerate_from 0 items) (all_numbered (λ i. P i.body) 0 items all))

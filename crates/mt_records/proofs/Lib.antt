@@ -10,3 +10,6 @@ pub mod WellMade
 pub mod Whole
 pub mod Windows
 pub mod Within
+pub mod Lists
+pub mod Said
+pub mod Over

@@ -5,7 +5,7 @@ use Rattle.std.proofs.lemmas.Bool.{lt-ltb, le-ltb, le-leb, lt-leb}
 use Rattle.std.proofs.lemmas.List.{at_drop_all, at_drop_more}
 use Rattle.mt_types.specs.declared.limits.TheConstants.{MOST_RECORDS}
 use Rattle.mt_spawn.specs.declared.task.FileSize.{FileSize}
-use Rattle.mt_records.specs.declared.limits.TheConstants.{LARGEST_OUTPUT}
+use Rattle.mt_types.specs.declared.limits.TheConstants.{LARGEST_OUTPUT}
 use Rattle.mt_records.specs.Fate.{are_numbered, total_len}
 
 -- the files from a place on are the one there and the others

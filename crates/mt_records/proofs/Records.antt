@@ -100,11 +100,11 @@ answered None x r e = absurd cc
 answered (Some n) None r e = absurd cc
 answered (Some n) (Some s) r e = (n, refl, cc)
 
-mapped_some : {X Y : Type 0} (f : X → Y) (o : Option X) (y : Y) → option_map f o ≡ Some y → (x : X) × (o ≡ Some x) × (f x ≡ y)
+pub mapped_some : {X Y : Type 0} (f : X → Y) (o : Option X) (y : Y) → option_map f o ≡ Some y → (x : X) × (o ≡ Some x) × (f x ≡ y)
 mapped_some f None y e = absurd cc
 mapped_some f (Some x) y e = (x, refl, cc)
 
-then_some : {X Y : Type 0} (f : X → Option Y) (o : Option X) (y : Y) → option_and_then f o ≡ Some y → (x : X) × (o ≡ Some x) × (f x ≡ Some y)
+pub then_some : {X Y : Type 0} (f : X → Option Y) (o : Option X) (y : Y) → option_and_then f o ≡ Some y → (x : X) × (o ≡ Some x) × (f x ≡ Some y)
 then_some f None y e = absurd cc
 then_some f (Some x) y e = (x, refl, e)
 

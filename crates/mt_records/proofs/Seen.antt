@@ -13,8 +13,8 @@ use Rattle.mt_types.specs.declared.task.Made.TheVariants as made
 use Rattle.mt_types.specs.declared.task.Raw.{Raw}
 use Rattle.mt_types.specs.declared.task.RecordFile.{RecordFile}
 use Rattle.mt_types.specs.declared.task.TaskFailure.{TaskFailure}
-use Rattle.mt_spawn.specs.Orders.{left_of, size_of, sizes_of}
-use Rattle.mt_spawn.specs.Parts.{bytes_of, file_bytes, size_among}
+use Rattle.mt_spawn.specs.Orders.{told_of, size_of, sizes_of}
+use Rattle.mt_spawn.specs.Parts.{part_bytes, file_bytes, size_among}
 use Rattle.mt_spawn.specs.declared.task.FileSize.{FileSize}
 use Rattle.mt_spawn.specs.declared.task.Left.{Left}
 use Rattle.mt_spawn.specs.declared.task.Part.TheVariants as part
@@ -71,13 +71,13 @@ read_files files = map (λ f. record_in f.bytes) files
 
 -- the files from a place on are these
 abbrev pub StandAt : Made → ℕ → List RecordFile → Type 0
-StandAt m k files = (i : ℕ) → bytes_of m (part.File (k + i)) ≡ file_bytes (slice_get files i)
+StandAt m k files = (i : ℕ) → part_bytes m (part.File (k + i)) ≡ file_bytes (slice_get files i)
 
-pub first_file : (m : Made) (k : ℕ) (f : RecordFile) (files : List RecordFile) → StandAt m k (f ∷ files) → bytes_of m (part.File k) ≡ f.bytes
-first_file m k f files stand = ap (λ (n : ℕ). bytes_of m (part.File n)) (omega arith) ∙ stand 0
+pub first_file : (m : Made) (k : ℕ) (f : RecordFile) (files : List RecordFile) → StandAt m k (f ∷ files) → part_bytes m (part.File k) ≡ f.bytes
+first_file m k f files stand = ap (λ (n : ℕ). part_bytes m (part.File n)) (omega arith) ∙ stand 0
 
 pub other_files : (m : Made) (k : ℕ) (f : RecordFile) (files : List RecordFile) → StandAt m k (f ∷ files) → StandAt m (k + 1) files
-other_files m k f files stand i = ap (λ (n : ℕ). bytes_of m (part.File n)) (omega arith) ∙ stand (suc i)
+other_files m k f files stand i = ap (λ (n : ℕ). part_bytes m (part.File n)) (omega arith) ∙ stand (suc i)
 
 -- the bytes of a range of the file at a place
 abbrev cut_of : List ℕ → ℕ → ℕ → List ℕ
@@ -127,7 +127,7 @@ sizes_among : (m : Made) → sizes_in (sizes_of m) ≡ map size_of (files_of m)
 sizes_among (made.Whole out files) = refl
 sizes_among (made.TooLarge total) = refl
 
-output_read : (m : Made) → take (size_among (sizes_of m) part.Out) (drop 0 (bytes_of m part.Out)) ≡ bytes_of m part.Out
+output_read : (m : Made) → take (size_among (sizes_of m) part.Out) (drop 0 (part_bytes m part.Out)) ≡ part_bytes m part.Out
 output_read (made.Whole out files) = take-length out
 output_read (made.TooLarge total) = refl
 
@@ -153,31 +153,31 @@ same_records m sizes ws o are is none seen =
     (ap (option_map (map (raw_with (bytes_in m)))) is ∙ all_with (bytes_in m) (shown 0 ws) ∙ ap all_records (shown_seen m 0 ws (files_of m) (all_stand m) seen))
 
 -- by what is told
-by_told : (j : Judgement) (ws : List Window) (raw : Raw) → HasSeen j ws → next_among j.records (sizes_in j.left.made) j.count ≡ None → left_of raw ≡ j.left
+by_told : (j : Judgement) (ws : List Window) (raw : Raw) → HasSeen j ws → next_among j.records (sizes_in j.left.made) j.count ≡ None → told_of raw ≡ j.left
     → AreSeen ws (files_of raw.made) → (t : Option TaskFailure) → told_failure j.left ≡ t
     → judged j.login j.left (bytes_in raw.made (output_range j.left)) (option_map (map (raw_with (bytes_in raw.made))) j.records)
-    ≡ judged j.login (left_of raw) (bytes_of raw.made part.Out) (records_in (files_of raw.made))
+    ≡ judged j.login (told_of raw) (part_bytes raw.made part.Out) (records_in (files_of raw.made))
 by_told j ws raw has none same seen (Some e) told =
     told_first j.login j.left e (bytes_in raw.made (output_range j.left)) (option_map (map (raw_with (bytes_in raw.made))) j.records) told
-    ∙ sym (ap (λ (left : Left). judged j.login left (bytes_of raw.made part.Out) (records_in (files_of raw.made))) same
-    ∙ told_first j.login j.left e (bytes_of raw.made part.Out) (records_in (files_of raw.made)) told)
+    ∙ sym (ap (λ (left : Left). judged j.login left (part_bytes raw.made part.Out) (records_in (files_of raw.made))) same
+    ∙ told_first j.login j.left e (part_bytes raw.made part.Out) (records_in (files_of raw.made)) told)
 by_told j ws raw has none same seen None told =
     let are : sizes_in j.left.made ≡ map size_of (files_of raw.made) = ap (λ (left : Left). sizes_in left.made) (sym same) ∙ sizes_among raw.made in
     let past : next_among j.records (sizes_in j.left.made) (length ws) ≡ None = ap (next_among j.records (sizes_in j.left.made)) has.count ∙ none in
     let records : option_map (map (raw_with (bytes_in raw.made))) j.records ≡ records_in (files_of raw.made) =
     same_records raw.made (sizes_in j.left.made) ws j.records are (has.records told) past seen in
-    let out : bytes_in raw.made (output_range j.left) ≡ bytes_of raw.made part.Out =
+    let out : bytes_in raw.made (output_range j.left) ≡ part_bytes raw.made part.Out =
     ap (λ (left : Left). bytes_in raw.made (output_range left)) (sym same) ∙ output_read raw.made in
     (λ i. judged j.login (sym same i) (out i) (records i))
 
-pub fates_of_windows : (j : Judgement) (ws : List Window) (raw : Raw) → HasSeen j ws → next_file j ≡ None → left_of raw ≡ j.left
+pub fates_of_windows : (j : Judgement) (ws : List Window) (raw : Raw) → HasSeen j ws → next_file j ≡ None → told_of raw ≡ j.left
     → AreSeen ws (files_of raw.made) → fate_with (bytes_in raw.made) (fate_of j) ≡ fate j.login raw
 unfolding fate next_file
 fates_of_windows j ws raw has none same seen =
     judged_with (bytes_in raw.made) j.login j.left (output_range j.left) j.records ∙ by_told j ws raw has none same seen (told_failure j.left) refl
 
 -- the same of an answer of the program
-pub judged_so : {E : Type 0} (j : Judgement) (r : Result (Fate Range) E) → IfOk r (λ f. f ≡ fate_of j) → (ws : List Window) (raw : Raw) → HasSeen j ws → next_file j ≡ None → left_of raw ≡ j.left
+pub judged_so : {E : Type 0} (j : Judgement) (r : Result (Fate Range) E) → IfOk r (λ f. f ≡ fate_of j) → (ws : List Window) (raw : Raw) → HasSeen j ws → next_file j ≡ None → told_of raw ≡ j.left
     → AreSeen ws (files_of raw.made) → IfOk r (λ f. fate_with (bytes_in raw.made) f ≡ fate j.login raw)
 judged_so j (Ok f) is ws raw has none same seen = ap (fate_with (bytes_in raw.made)) is ∙ fates_of_windows j ws raw has none same seen
 judged_so j (Err e) is ws raw has none same seen = tt

@@ -17,8 +17,8 @@ use Rattle.mt_types.specs.declared.task.TaskFailure.{TaskFailure}
 use Rattle.mt_types.specs.declared.task.TaskFailure.TheVariants.{TaskRecordError, TaskPlaceRefused, TaskObjectMissing}
 use Rattle.mt_types.specs.declared.task.TaskRecord.{TaskRecord}
 use Rattle.mt_types.specs.declared.task.TaskRecord.TheVariants as task
-use Rattle.mt_spawn.specs.Orders.{left_of}
-use Rattle.mt_spawn.specs.Parts.{bytes_of}
+use Rattle.mt_spawn.specs.Orders.{told_of}
+use Rattle.mt_spawn.specs.Parts.{part_bytes}
 use Rattle.mt_spawn.specs.declared.task.Left.{Left}
 use Rattle.mt_spawn.specs.declared.task.Part.TheVariants as part
 use Rattle.mt_records.specs.declared.head.RecordHead.{RecordHead}
@@ -116,4 +116,4 @@ module _ {B : Type 0} (login : List ℕ) where
 
 pub fates_are_well_made : (login : List ℕ) (raw : Raw) → IsWellMadeFate (fate login raw)
 unfolding fate
-fates_are_well_made login raw = judged_few login (left_of raw) (bytes_of raw.made part.Out) (records_in (files_of raw.made))
+fates_are_well_made login raw = judged_few login (told_of raw) (part_bytes raw.made part.Out) (records_in (files_of raw.made))

@@ -9,8 +9,8 @@ use Rattle.mt_types.specs.declared.task.Made.TheVariants as made
 use Rattle.mt_types.specs.declared.task.Raw.{Raw}
 use Rattle.mt_types.specs.declared.task.RecordFile.{RecordFile}
 use Rattle.mt_types.specs.declared.task.TaskFailure.{TaskFailure}
-use Rattle.mt_spawn.specs.Orders.{left_of, size_of, sizes_of}
-use Rattle.mt_spawn.specs.Parts.{bytes_of, size_among}
+use Rattle.mt_spawn.specs.Orders.{told_of, size_of, sizes_of}
+use Rattle.mt_spawn.specs.Parts.{part_bytes, size_among}
 use Rattle.mt_spawn.specs.declared.task.FileSize.{FileSize}
 use Rattle.mt_spawn.specs.declared.task.Left.{Left}
 use Rattle.mt_spawn.specs.declared.task.Part.TheVariants as part
@@ -114,7 +114,7 @@ module _ (stored : Range → List ℕ) (fits : (r : Range) → length (stored r)
 
   -- ---- the bodies of ranges
 
-  same_body : (k : ℕ) (w : Window) (m : Made) → bytes_of m (part.File k) ≡ whole_bytes k w → option_map (raw_with stored) (range_record k w) ≡ option_map (raw_with (bytes_in m)) (range_record k w)
+  same_body : (k : ℕ) (w : Window) (m : Made) → part_bytes m (part.File k) ≡ whole_bytes k w → option_map (raw_with stored) (range_record k w) ≡ option_map (raw_with (bytes_in m)) (range_record k w)
   unfolding record_with
   same_body k w m stands = window_with stored (range_in k) w ∙ by_len (body_len w.end w.len) refl ∙ sym (window_with (bytes_in m) (range_in k) w)
     where
@@ -181,7 +181,7 @@ module _ (stored : Range → List ℕ) (fits : (r : Range) → length (stored r)
   pub fates_of_any_bytes : (j : Judgement) (ws : List Window) → HasSeen j ws → next_file j ≡ None → AreWindows (sizes_in j.left.made) ws → HasOutcome j stored
   fates_of_any_bytes j ws has none are =
       let raw : Raw = whole_of ws j.left in
-      let left : left_of raw ≡ j.left = ap (with_made j.left) (made_sizes ws j.left.made are) in
+      let left : told_of raw ≡ j.left = ap (with_made j.left) (made_sizes ws j.left.made are) in
       let judged_so : fate_with stored (fate_of j) ≡ fate j.login raw =
       same_fate j ws has are (told_failure j.left) refl ∙ fates_of_windows j ws raw has none left (made_seen ws j.left.made are) in
       record { raw = raw; left = left; judged = judged_so }

@@ -64,7 +64,7 @@ module _ {B : Type 0} (P : B → Type 0) where
     named_of None make e each = tt
     named_of (Some p) make e each = each p
 
-    asked_of : (h : RecordHead) (body : B) → P body → IfOk (asked login h body) (λ t. OfRecord P t)
+    pub asked_of : (h : RecordHead) (body : B) → P body → IfOk (asked login h body) (λ t. OfRecord P t)
     asked_of (head.Emit None reducer) body is = is
     asked_of (head.Emit (Some text) reducer) body is = named_of (path_in login text) (λ p. task.Emit (Some p) reducer body) TaskPlaceRefused (λ p. is)
     asked_of (head.Keep text) body is = named_of (path_in login text) (λ p. task.Keep p body) TaskPlaceRefused (λ p. is)

@@ -5,7 +5,7 @@ use Rattle.std.specs.Option.{ok_or}
 use Rattle.std.specs.Result.{result_ok}
 use Rattle.mt_path.specs.AccountPath.{AccountPath}
 use Rattle.mt_path.specs.Names.{path_of_text}
-use Rattle.mt_types.specs.declared.limits.TheConstants.{LONGEST_STDERR, MOST_RECORDS}
+use Rattle.mt_types.specs.declared.limits.TheConstants.{LARGEST_OUTPUT, LONGEST_STDERR, MOST_RECORDS}
 use Rattle.mt_types.specs.declared.task.Fate.{Fate}
 use Rattle.mt_types.specs.declared.task.Fate.TheVariants.{Good, Bad}
 use Rattle.mt_types.specs.declared.task.Made.{Made}
@@ -16,8 +16,8 @@ use Rattle.mt_types.specs.declared.task.TaskFailure.{TaskFailure}
 use Rattle.mt_types.specs.declared.task.TaskFailure.TheVariants.{UserTaskError, TaskOutputTooLarge, TaskRecordError, TaskPlaceRefused, TaskObjectMissing}
 use Rattle.mt_types.specs.declared.task.TaskRecord.{TaskRecord}
 use Rattle.mt_types.specs.declared.task.TaskRecord.TheVariants as task
-use Rattle.mt_spawn.specs.Orders.{left_of}
-use Rattle.mt_spawn.specs.Parts.{bytes_of}
+use Rattle.mt_spawn.specs.Orders.{told_of}
+use Rattle.mt_spawn.specs.Parts.{part_bytes}
 use Rattle.mt_spawn.specs.declared.task.FileSize.{FileSize}
 use Rattle.mt_spawn.specs.declared.task.Left.{Left}
 use Rattle.mt_spawn.specs.declared.task.Part.TheVariants as part
@@ -25,7 +25,6 @@ use Rattle.mt_spawn.specs.declared.task.Sizes.{Sizes}
 use Rattle.mt_spawn.specs.declared.task.Sizes.TheVariants as sizes
 use Rattle.mt_records.specs.declared.head.RecordHead.{RecordHead}
 use Rattle.mt_records.specs.declared.head.RecordHead.TheVariants as head
-use Rattle.mt_records.specs.declared.limits.TheConstants.{LARGEST_OUTPUT}
 use Rattle.mt_records.specs.declared.record.RawRecord.{RawRecord}
 use Rattle.mt_records.specs.Heads.{is_output}
 use Rattle.mt_records.specs.Windows.{record_in}
@@ -140,4 +139,4 @@ records_in files = all_records (map (λ f. record_in f.bytes) files)
 
 -- the fate of a raw outcome
 unfoldable pub fate : List ℕ → Raw → Fate (List ℕ)
-fate login raw = judged login (left_of raw) (bytes_of raw.made part.Out) (records_in (files_of raw.made))
+fate login raw = judged login (told_of raw) (part_bytes raw.made part.Out) (records_in (files_of raw.made))

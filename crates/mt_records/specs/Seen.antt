@@ -4,7 +4,7 @@ use Rattle.std.specs.List.{slice_get}
 use Rattle.mt_types.specs.declared.task.Fate.{Fate}
 use Rattle.mt_types.specs.declared.task.Made.{Made}
 use Rattle.mt_types.specs.declared.task.TaskFailure.{TaskFailure}
-use Rattle.mt_spawn.specs.Parts.{bytes_of, size_among}
+use Rattle.mt_spawn.specs.Parts.{part_bytes, size_among}
 use Rattle.mt_spawn.specs.declared.task.FileSize.{FileSize}
 use Rattle.mt_spawn.specs.declared.task.Left.{Left}
 use Rattle.mt_spawn.specs.declared.task.Part.TheVariants as part
@@ -18,7 +18,7 @@ use Rattle.mt_records.specs.Windows.{Window, record_with}
 
 -- the bytes that a range names
 abbrev pub bytes_in : Made → Range → List ℕ
-bytes_in made r = take r.len (drop r.from (bytes_of made r.part))
+bytes_in made r = take r.len (drop r.from (part_bytes made r.part))
 
 -- the range of a file, by the file's place
 abbrev pub range_in : ℕ → ℕ → ℕ → Range

@@ -113,7 +113,7 @@ impl Judging {
     ghost use Rattle.std.specs.Prelude.{◌≡◌, List, Some, None, IfOk, OnOk};
     ghost use Rattle.mt_types.specs.Values.{fate_with};
     ghost use Rattle.mt_types.specs.declared.task.Raw.{Raw};
-    ghost use Rattle.mt_spawn.specs.Orders.{left_of};
+    ghost use Rattle.mt_spawn.specs.Orders.{told_of};
     ghost use Rattle.mt_records.specs.Fate.{fate, files_of};
     ghost use Rattle.mt_records.specs.Seen.{HasSeen, after_file, begun, bytes_in, fate_of, next_file};
     ghost use Rattle.mt_records.specs.Windows.{AreSeen, Window};
@@ -179,7 +179,7 @@ impl Judging {
     /// The fate of the task, by what was looked at: all of it, where no file is wanted.
     pub fn fate(self, alloc: Global) -> Result<Fate<Range>, AllocError>
         ensures value { IfOk result (λ f. f ≡ fate_of self) }
-        ensures judged { (ws : List Window) (raw : Raw) → HasSeen self ws → next_file self ≡ None → left_of raw ≡ self.left
+        ensures judged { (ws : List Window) (raw : Raw) → HasSeen self ws → next_file self ≡ None → told_of raw ≡ self.left
             → AreSeen ws (files_of raw.made) → IfOk result (λ f. fate_with (bytes_in raw.made) f ≡ fate self.login raw) }
     {
         let Judging {

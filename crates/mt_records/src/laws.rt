@@ -1,5 +1,5 @@
 //! Laws of records and fates.
-ghost use Rattle.mt_records.specs.Laws.{FateOfAnyBytes, FateOfWindows, FatesAreWellMade, NoneSeen, RangesAreWithin, ReadIsWritten, TornIsTorn, WindowsInTurn, WrittenIsRead};
+ghost use Rattle.mt_records.specs.Laws.{FateOfAnyBytes, FateOfStored, FateOfWindows, FatesAreWellMade, NoneSeen, OverIsSaid, OverIsWellMade, RangedIsSaid, RangedIsWellMade, RangesAreWithin, ReadIsWritten, TornIsTorn, WindowsInTurn, WrittenIsRead};
 
 /// What is written is read again, and nothing else is; a file is torn exactly where its end is none.
 pub fn records_are_read_again()
@@ -19,9 +19,14 @@ pub fn ranges_are_within()
     ensures { RangesAreWithin }
 {}
 
-/// A fate has at most 4,095 records, and their places and names are paths of the account.
+/// A fate has at most 4,095 records, and their places and names are paths of the account: over bytes, over ranges, and over whatever bytes
+/// were read for the ranges. The numbers of its reducers have four bytes, and its standard error is a front.
 pub fn fates_are_well_made()
-    ensures { FatesAreWellMade }
+    ensures bytes { FatesAreWellMade }
+    ensures ranges { RangedIsWellMade }
+    ensures said { RangedIsSaid }
+    ensures over { OverIsWellMade }
+    ensures over_said { OverIsSaid }
 {}
 
 /// The fate over ranges, each with its bytes, is the fate over bytes.
@@ -30,7 +35,8 @@ pub fn fates_of_windows()
 {}
 
 /// Where nothing is told of what was left but its sizes, an outcome of these sizes has the fate that was found, with whatever
-/// bytes were read for its ranges.
+/// bytes were read for its ranges: any function of ranges, or what was read record by record.
 pub fn fates_are_honest()
-    ensures { FateOfAnyBytes }
+    ensures any { FateOfAnyBytes }
+    ensures stored { FateOfStored }
 {}

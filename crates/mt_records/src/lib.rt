@@ -29,7 +29,8 @@ pub use laws::{
     fates_are_honest, fates_are_well_made, fates_of_windows, ranges_are_within,
     records_are_read_again, windows_in_turn,
 };
-pub use limits::{END_LEN, LARGEST_OUTPUT, LONGEST_HEAD, LONGEST_TEXT};
+pub use limits::{END_LEN, LONGEST_HEAD, LONGEST_TEXT, constants_are};
+pub use mt_types::LARGEST_OUTPUT;
 pub use range::Range;
 pub use record::RawRecord;
 pub use writing::{encode_head, end_of};

@@ -1,4 +1,5 @@
-//! The limits of records.
+//! The limits of records, and a law that says each as a number.
+ghost use Rattle.std.specs.Prelude.{◌≡◌};
 
 /// A place or a name in a record, in bytes.
 pub const LONGEST_TEXT: usize = 1_200;
@@ -9,5 +10,9 @@ pub const LONGEST_HEAD: usize = 1_209;
 /// The end of a record file, in bytes: its mark and the length of the body, 4 + 8.
 pub const END_LEN: usize = 12;
 
-/// Standard output and the record files of a task together, in bytes.
-pub const LARGEST_OUTPUT: u64 = 16_777_216;
+/// Each limit is this number, whatever a definition calls it.
+pub fn constants_are()
+    ensures longest_text { LONGEST_TEXT ≡ 1200 }
+    ensures longest_head { LONGEST_HEAD ≡ 1209 }
+    ensures end_len { END_LEN ≡ 12 }
+{}

@@ -2,9 +2,8 @@
 ghost use Rattle.std.specs.Prelude.{◌≡◌, ◌+◌, nat_lt};
 ghost use Rattle.mt_records.specs.Fate.{are_numbered, size_failure, told_failure, total_len};
 
-use crate::limits::LARGEST_OUTPUT;
 use mt_spawn::{FileSize, Left, Sizes};
-use mt_types::{MOST_RECORDS, TaskFailure};
+use mt_types::{LARGEST_OUTPUT, MOST_RECORDS, TaskFailure};
 
 // Whether standard output and files have more bytes than they may have together.
 fn is_too_large(out: u64, files: &[FileSize]) -> bool

@@ -13,3 +13,4 @@ pub mod Starts
 pub mod Looks
 pub mod Above
 pub mod Again
+pub mod Ready

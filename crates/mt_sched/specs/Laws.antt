@@ -1,18 +1,21 @@
 -- The laws that connect plans with the plain lists of tasks of a job, and with the changes of a job.
-use Rattle.std.specs.Prelude.{◌≡◌, ℕ, ◌+◌, Bool, true, List, [], ◌∷◌, ◌++◌, length, All}
-use Rattle.std.specs.List.{find, flat_map}
-use Rattle.std.specs.Option.{option_map}
+use Rattle.std.specs.Prelude.{◌≡◌, ℕ, ◌+◌, Bool, true, false, List, [], ◌∷◌, ◌++◌, length, map, All, None, Some}
+use Rattle.std.specs.List.{IsDistinct, find, flat_map}
+use Rattle.std.specs.List.Sorted.{IsStrictlySortedBy}
+use Rattle.std.specs.Option.{option_map, option_map_or}
+use Rattle.std.specs.Ordering.{nat_cmp}
 use Rattle.mt_types.specs.declared.document.InputLine.{InputLine}
 use Rattle.mt_types.specs.declared.document.JobDocument.{JobDocument}
 use Rattle.mt_types.specs.declared.job.Job.{Job}
+use Rattle.mt_types.specs.declared.job.Task.{Task}
 use Rattle.mt_types.specs.declared.job.TraceEntry.{TraceEntry}
 use Rattle.mt_model.specs.Feed.{items_of}
-use Rattle.mt_model.specs.JobSteps.{done_at, new_job, with_end, with_entry, with_lines}
+use Rattle.mt_model.specs.JobSteps.{close_refusal, commit_refusal, done_at, new_job, with_end, with_entry, with_lines}
 use Rattle.mt_model.specs.Rows.{Rows}
 use Rattle.mt_model.specs.Sound.{Sound}
-use Rattle.mt_model.specs.State.{with_job}
+use Rattle.mt_model.specs.State.{job_at, with_job}
 use Rattle.mt_model.specs.Tasks.{all_complete, is_committed, is_ready, is_running, is_task, ready, waits_finish}
-use Rattle.mt_sched.specs.Plan.{Plan, all_ready, first_waiting, is_committed_in, is_complete_plan, is_ready_in, is_task_in, ready_in, waits_in}
+use Rattle.mt_sched.specs.Plan.{Plan, all_ready, first_waiting, has_task, is_committed_in, is_complete_plan, is_ready_in, is_same_task, is_task_in, ready_in, waits_in}
 use Rattle.mt_sched.specs.PlanOfJob.{inputs_in, kinds_of, plan_of, plans_of}
 use Rattle.mt_sched.specs.PlanSteps.{committed_in, ended_plan, first_plan, grown, with_plan, without_plan}
 
@@ -84,3 +87,24 @@ PlansOfNew B = (jobs : List (Job B)) (job : Job B) → is_running job ≡ true �
 -- a job that is done has none
 abbrev pub PlansOfDone : Type 0 → Type 0
 PlansOfDone B = (jobs : List (Job B)) (number moment : ℕ) (cancelled : Bool) → plans_of (with_job jobs number (done_at moment cancelled)) ≡ without_plan (plans_of jobs) number
+
+-- the numbers of these jobs rise
+abbrev pub Rise : {B : Type 0} → List (Job B) → Type 0
+Rise jobs = IsStrictlySortedBy nat_cmp (map (λ j. j.number) jobs)
+
+-- a task is among the ready ones of jobs whose numbers rise where it is ready of the job of its number
+abbrev pub ReadyTasksAreReady : Type 0 → Type 0
+ReadyTasksAreReady B = (jobs : List (Job B)) → Rise jobs → (t : Task)
+    → has_task (flat_map ready jobs) t ≡ option_map_or (λ j. is_ready j t.phase t.place) (job_at jobs t.job) false
+
+-- no two of the ready tasks of such jobs are the same
+abbrev pub ReadyTasksAreApart : Type 0 → Type 0
+ReadyTasksAreApart B = (jobs : List (Job B)) → Rise jobs → IsDistinct is_same_task (flat_map ready jobs)
+
+-- the first job that waits to be finished is the one of its number, and may be closed
+abbrev pub AJobThatWaits : Type 0 → Type 0
+AJobThatWaits B = (jobs : List (Job B)) → Rise jobs → (j : Job B) → find waits_finish jobs ≡ Some j → (job_at jobs j.number ≡ Some j) × (close_refusal false j ≡ None)
+
+-- a ready task may be committed
+abbrev pub AReadyTask : Type 0 → Type 0
+AReadyTask B = (j : Job B) (phase place : ℕ) → is_ready j phase place ≡ true → commit_refusal phase place j ≡ None

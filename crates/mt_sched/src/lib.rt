@@ -9,5 +9,6 @@ mod phase;
 mod queue;
 mod sched;
 
+pub use phase::PhaseQueue;
 pub use queue::Queue;
 pub use sched::Sched;

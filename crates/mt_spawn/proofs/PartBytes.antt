@@ -8,13 +8,13 @@ use Rattle.mt_types.specs.declared.task.Made.{Made}
 use Rattle.mt_types.specs.declared.task.Made.TheVariants as made
 use Rattle.mt_types.specs.declared.task.Raw.{Raw}
 use Rattle.mt_types.specs.declared.task.RecordFile.{RecordFile}
-use Rattle.mt_spawn.specs.Orders.{left_of, size_of, sizes_of}
-use Rattle.mt_spawn.specs.Parts.{bytes_of, file_bytes, file_size, size_among, size_in, told_between, told_part}
+use Rattle.mt_spawn.specs.Orders.{told_of, size_of, sizes_of}
+use Rattle.mt_spawn.specs.Parts.{part_bytes, file_bytes, file_size, size_among, size_in, told_between, told_part}
 use Rattle.mt_spawn.specs.declared.task.Left.{Left}
 use Rattle.mt_spawn.specs.declared.task.Part.{Part}
 use Rattle.mt_spawn.specs.declared.task.Part.TheVariants as part
 
-made_size : (m : Made) (p : Part) → size_among (sizes_of m) p ≡ length (bytes_of m p)
+made_size : (m : Made) (p : Part) → size_among (sizes_of m) p ≡ length (part_bytes m p)
 made_size (made.Whole out files) part.Out = refl
 made_size (made.Whole out files) (part.File index) = same files index
   where
@@ -25,16 +25,16 @@ made_size (made.Whole out files) (part.File index) = same files index
 made_size (made.TooLarge total) p = refl
 
 -- what is told of a part is as long as its bytes
-pub told_size : (raw : Raw) (p : Part) → size_in (Some (left_of raw)) p ≡ length (bytes_of raw.made p)
+pub told_size : (raw : Raw) (p : Part) → size_in (Some (told_of raw)) p ≡ length (part_bytes raw.made p)
 told_size raw p = made_size raw.made p
 
 -- behind the end of a part nothing is left of it
-pub told_end : (told : Option Raw) (held : Option Left) (p : Part) (from end : ℕ) → ((raw : Raw) → told ≡ Some raw → held ≡ Some (left_of raw)) → size_in held p ≤ from
+pub told_end : (told : Option Raw) (held : Option Left) (p : Part) (from end : ℕ) → ((raw : Raw) → told ≡ Some raw → held ≡ Some (told_of raw)) → size_in held p ≤ from
     → IfSome (told_between told p from end) (λ bytes. bytes ≡ [])
 told_end None held p from end law past = tt
 told_end (Some raw) held p from end law past =
-    let size : length (bytes_of raw.made p) ≤ from = subst (λ n. n ≤ from) (ap (λ h. size_in h p) (law raw refl) ∙ told_size raw p) past in
-    rw (drop_all from (bytes_of raw.made p) size) (nothing (end - from))
+    let size : length (part_bytes raw.made p) ≤ from = subst (λ n. n ≤ from) (ap (λ h. size_in h p) (law raw refl) ∙ told_size raw p) past in
+    rw (drop_all from (part_bytes raw.made p) size) (nothing (end - from))
   where
     nothing : (n : ℕ) → take {A = ℕ} n [] ≡ []
     nothing zero = refl
@@ -45,7 +45,7 @@ pub told_took : (told told' : Option Raw) (p : Part) (from n end : ℕ) (into mo
     → IfSome (told_part told p) (λ bytes. take n into ≡ take n (drop from bytes))
     → told_between told p from end ≡ option_map (λ rest. take n (into ++ more) ++ rest) (told_between told' p (from + n) end)
 told_took None told' p from n end into more same few within is = rw same refl
-told_took (Some raw) told' p from n end into more same few within is = rw same (ap Some (cut (bytes_of raw.made p) is))
+told_took (Some raw) told' p from n end into more same few within is = rw same (ap Some (cut (part_bytes raw.made p) is))
   where
     cut : (bytes : List ℕ) → take n into ≡ take n (drop from bytes) → take (end - from) (drop from bytes) ≡ take n (into ++ more) ++ take (end - (from + n)) (drop (from + n) bytes)
     cut bytes is =

@@ -4,7 +4,7 @@ use Rattle.std.specs.List.{AllZip, Contains, list_any}
 use Rattle.std.specs.Io.KnownBytes.{IsAtEnd}
 use Rattle.mt_base.specs.Counts.{NeverFell, Rose, RoseBy}
 use Rattle.mt_types.specs.declared.task.Raw.{Raw}
-use Rattle.mt_spawn.specs.Orders.{left_of}
+use Rattle.mt_spawn.specs.Orders.{told_of}
 use Rattle.mt_spawn.specs.declared.task.Begun.{Begun}
 use Rattle.mt_spawn.specs.declared.task.Begun.TheVariants as begun
 use Rattle.mt_spawn.specs.declared.task.Left.{Left}
@@ -27,8 +27,8 @@ pub record Seen (Fate : Type 0) : Type 0 where
 
 -- what a child may have ended in: the outcome that is told, or else any of which this is told
 abbrev pub MayBe : (Raw → Type 0) → Left → Option Raw → Type 0
-MayBe may left (Some raw) = (left_of raw ≡ left) × may raw
-MayBe may left None = (raw : Raw) → left_of raw ≡ left → may raw
+MayBe may left (Some raw) = (told_of raw ≡ left) × may raw
+MayBe may left None = (raw : Raw) → told_of raw ≡ left → may raw
 
 module _ {F : Type 0} where
   abbrev pub ticket_of : Child F → ℕ

@@ -5,7 +5,7 @@ use Rattle.mt_edge.specs.Stream.{LeftAfter}
 use Rattle.mt_types.specs.declared.task.Raw.{Raw}
 use Rattle.mt_types.specs.declared.task.Run.{Run}
 use Rattle.mt_spawn.specs.Children.{Child, Seen, lives}
-use Rattle.mt_spawn.specs.Orders.{input_from, left_of, run_from}
+use Rattle.mt_spawn.specs.Orders.{input_from, told_of, run_from}
 use Rattle.mt_spawn.specs.declared.children.MemChild.{MemChild}
 use Rattle.mt_spawn.specs.declared.task.Left.{Left}
 use Rattle.mt_spawn.specs.declared.task.Order.{Order}
@@ -43,7 +43,7 @@ pub record ReadAll (left : Option (List ℕ)) (bytes : List ℕ) (left' : Option
 
 -- what is told of an outcome that is held
 abbrev pub held_of : Option Raw → Option Left
-held_of held = option_map left_of held
+held_of held = option_map told_of held
 
 -- children in memory with a number for their company, and the counts of a spawner
 abbrev pub seen_of : List MemChild → ℕ → ℕ → ℕ → Seen MemFate

@@ -43,5 +43,5 @@ sizes_of (made.Whole out files) = sizes.Whole (length out) (map size_of files)
 sizes_of (made.TooLarge total) = sizes.TooLarge total
 
 -- what is told of an outcome before its bytes are read
-abbrev pub left_of : Raw → Left
-left_of raw = record { status = raw.status; stderr = raw.stderr; made = sizes_of raw.made }
+abbrev pub told_of : Raw → Left
+told_of raw = record { status = raw.status; stderr = raw.stderr; made = sizes_of raw.made }

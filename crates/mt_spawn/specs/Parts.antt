@@ -20,10 +20,10 @@ file_bytes (Some f) = f.bytes
 file_bytes None = []
 
 -- the bytes of a part; of a file that isn't there, and of what was not kept, none
-abbrev pub bytes_of : Made → Part → List ℕ
-bytes_of (made.Whole out files) part.Out = out
-bytes_of (made.Whole out files) (part.File index) = file_bytes (slice_get files index)
-bytes_of (made.TooLarge total) p = []
+abbrev pub part_bytes : Made → Part → List ℕ
+part_bytes (made.Whole out files) part.Out = out
+part_bytes (made.Whole out files) (part.File index) = file_bytes (slice_get files index)
+part_bytes (made.TooLarge total) p = []
 
 abbrev pub file_size : Option FileSize → ℕ
 file_size (Some f) = f.len
@@ -41,7 +41,7 @@ size_in None p = 0
 
 -- the bytes of a part, where the outcome is told
 abbrev pub told_part : Option Raw → Part → Option (List ℕ)
-told_part told p = option_map (λ raw. bytes_of raw.made p) told
+told_part told p = option_map (λ raw. part_bytes raw.made p) told
 
 -- those from a place up to another
 abbrev pub told_between : Option Raw → Part → ℕ → ℕ → Option (List ℕ)

@@ -1,6 +1,6 @@
 //! What is told of an outcome before what was written is read.
 ghost use Rattle.std.specs.Prelude.{◌≡◌, IfOk, map};
-ghost use Rattle.mt_spawn.specs.Orders.{left_of, size_of, sizes_of};
+ghost use Rattle.mt_spawn.specs.Orders.{told_of, size_of, sizes_of};
 
 use crate::{FileSize, Left, Sizes};
 use mt_base::{Duplicate, Sequence};
@@ -35,8 +35,8 @@ fn sizes_of(alloc: Global, made: &Made) -> Result<Sizes, AllocError>
 }
 
 /// What is told of an outcome before its bytes are read.
-pub fn left_of(alloc: Global, raw: &Raw) -> Result<Left, AllocError>
-    ensures { IfOk result (λ left. left ≡ left_of raw.now) }
+pub fn told_of(alloc: Global, raw: &Raw) -> Result<Left, AllocError>
+    ensures { IfOk result (λ left. left ≡ told_of raw.now) }
 {
     Ok(Left {
         status: raw.status,

@@ -17,7 +17,7 @@ mod spool;
 mod task;
 mod work;
 
-pub use left::left_of;
+pub use left::told_of;
 pub use mem_spawner::{MemSpawner, Script};
 pub use mem_spool::{MemFile, MemSpool};
 pub use no_spawner::NoSpawner;

@@ -1,10 +1,10 @@
 //! Children in memory, and the outcome of one that has ended. Nothing here fails but for want of memory.
 ghost use Rattle.std.specs.Prelude.{◌≡◌, ◌<◌, ◌≤◌, ◌+◌, ◌⊎◌, IfOk, length, take, drop};
-ghost use Rattle.mt_spawn.specs.Orders.{left_of};
-ghost use Rattle.mt_spawn.specs.Parts.{bytes_of};
+ghost use Rattle.mt_spawn.specs.Orders.{told_of};
+ghost use Rattle.mt_spawn.specs.Parts.{part_bytes};
 
 use crate::children::{Children, MemChild, ReadEnd, read_all};
-use crate::left::left_of;
+use crate::left::told_of;
 use crate::{Begun, Left, Order, Part, Ticket, Waited, Work};
 use mt_base::Duplicate;
 use mt_edge::{ReadStep, Source};
@@ -23,7 +23,7 @@ pub struct Running<W> {
 
 // The bytes of a part.
 fn part_of(raw: &Raw, part: Part) -> &[u8]
-    ensures { result.now ≡ bytes_of raw.now.made part }
+    ensures { result.now ≡ part_bytes raw.now.made part }
 {
     match (&raw.made, part) {
         (Made::Whole { out, .. }, Part::Out) => out.as_slice(),
@@ -61,7 +61,7 @@ impl<W: Work> Running<W> {
     ghost use Rattle.mt_types.specs.declared.task.Raw.{Raw};
     ghost use Rattle.mt_spawn.specs.Children.{Begins, Waits};
     ghost use Rattle.mt_spawn.specs.Memory.{IsOutcome, child_of, held_of, outcome_of, seen_of};
-    ghost use Rattle.mt_spawn.specs.Orders.{input_from, left_of, run_from};
+    ghost use Rattle.mt_spawn.specs.Orders.{input_from, told_of, run_from};
     ghost use Rattle.mt_spawn.specs.Parts.{ReadsPart, size_in, told_part};
 
     /// No child.
@@ -115,10 +115,10 @@ impl<W: Work> Running<W> {
 
     // What a child ends in, with what is told of it.
     fn outcome(&self, alloc: Global, child: &MemChild) -> Result<(Raw, Left), AllocError>
-        ensures { IfOk result (λ both. (both.0 ≡ outcome_of (W.raw_of self.now.work) child.now.order child.now.bytes.items child.now.otherwise) × (both.1 ≡ left_of both.0)) }
+        ensures { IfOk result (λ both. (both.0 ≡ outcome_of (W.raw_of self.now.work) child.now.order child.now.bytes.items child.now.otherwise) × (both.1 ≡ told_of both.0)) }
     {
         let raw = self.work.work(alloc, &child.order, child.bytes.as_slice(), child.otherwise)?;
-        let left = left_of(alloc, &raw)?;
+        let left = told_of(alloc, &raw)?;
         Ok((raw, left))
     }
 

@@ -11,7 +11,7 @@ pub trait Spawner {
     ghost use Rattle.mt_types.specs.declared.task.Run.{Run};
     ghost use Rattle.mt_types.specs.declared.task.Raw.{Raw};
     ghost use Rattle.mt_spawn.specs.Children.{Begins, Loses, SameLive, Seen, Waits, lives};
-    ghost use Rattle.mt_spawn.specs.Orders.{input_from, left_of, run_from};
+    ghost use Rattle.mt_spawn.specs.Orders.{input_from, told_of, run_from};
     ghost use Rattle.mt_spawn.specs.Parts.{ReadsPart, size_in, told_part};
     ghost use Rattle.mt_spawn.specs.declared.task.Begun.{Begun};
     ghost use Rattle.mt_spawn.specs.declared.task.Left.{Left};
@@ -84,5 +84,5 @@ pub trait Spawner {
         ensures rule { rule self.new ≡ rule self.old };
 
     /// What is told is of what is held.
-    ghost told_is_held: { (s : Self) (raw : Raw) → told s ≡ Some raw → held s ≡ Some (left_of raw) };
+    ghost told_is_held: { (s : Self) (raw : Raw) → told s ≡ Some raw → held s ≡ Some (told_of raw) };
 }

@@ -3,7 +3,8 @@
 //! it, and the list of its bytes where its meaning is told.
 //!
 //! - `body`, `object`: a body, what stands at a path, and fields.
-//! - `document`, `task`, `job`: what a job is asked to do, what a task is run with and leaves, and the job itself.
+//! - `document`, `task`, `job`: what a job is asked to do, what a task is run with and leaves, and the job itself; `live`:
+//!   what is told of it.
 //! - `upload`: an object that is put in parts.
 //! - `command`: what the log holds; `refusal`: why a command is not taken; `reply`: what a request is answered.
 //! - `fields`: the fields of one name; `limits`, `texts`: what values may be.
@@ -16,6 +17,7 @@ mod document;
 mod fields;
 mod job;
 mod limits;
+mod live;
 mod object;
 mod refusal;
 mod reply;
@@ -29,11 +31,12 @@ pub use document::{InputLine, JobDocument, Lines, Paths, Phase, PhaseKind, Phase
 pub use fields::{first_value, has_field, is_named};
 pub use job::{AssetBodies, Item, Items, Job, JobList, Outcome, Task, Tasks, Trace, TraceEntry};
 pub use limits::{
-    LARGEST_BODY, LARGEST_DURABILITY, LARGEST_METADATA, LARGEST_PIECE, LAST_PART,
+    LARGEST_BODY, LARGEST_DURABILITY, LARGEST_METADATA, LARGEST_OUTPUT, LARGEST_PIECE, LAST_PART,
     LONGEST_COMMAND_LINE, LONGEST_CONTENT_TYPE, LONGEST_NAME, LONGEST_STDERR, MOST_ASSETS,
     MOST_COMMANDS, MOST_METADATA, MOST_PHASES, MOST_RECORDS, MOST_REDUCERS, NUMBERS_A_COMMAND,
-    TOKEN_MARKS,
+    TOKEN_MARKS, constants_are,
 };
+pub use live::{JobStand, LiveText};
 pub use mt_base::{Bytes, Duplicate, LAST_MOMENT, NUMBERS_END, Sequence, Text};
 pub use mt_path::{Area, Path, PathError};
 pub use object::{Entry, Field, Fields, Object, Row, RowList};

@@ -1,6 +1,6 @@
 -- what is left of the room is what the files so far left of it
 use Rattle.std.proofs.Common.{◌≡◌, ◌+◌, drop}
-use Rattle.mt_records.specs.declared.limits.TheConstants.{LARGEST_OUTPUT}
+use Rattle.mt_types.specs.declared.limits.TheConstants.{LARGEST_OUTPUT}
 use Rattle.mt_records.specs.Fate.{total_len}
 use Rattle.mt_records.proofs.told.is_too_large.Given as goal
 

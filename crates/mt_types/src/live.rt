@@ -1,4 +1,4 @@
-//! The texts of a job.
+//! What is told of jobs: their texts, and which of them run.
 
 /// A text of a job.
 #[derive(Clone, Copy, Debug, PartialEq, Eq)]
@@ -15,4 +15,13 @@ pub enum LiveText {
     Tasks,
     /// The job as one JSON object, without a line end.
     Status,
+}
+
+/// Whether a job runs.
+#[derive(Clone, Copy, Debug, PartialEq, Eq)]
+pub enum JobStand {
+    /// It is neither finished nor cancelled.
+    Running,
+    /// It is finished or cancelled.
+    Done,
 }

@@ -1,0 +1,7 @@
+-- The lines so far are well made.
+use Rattle.std.specs.List.{AllByRecursion}
+use Rattle.mt_types.specs.WellMade.{IsWellMadeLine}
+use Rattle.jobs_rows.proofs.many.lines_of.Given as goal
+
+abbrev pub invariant-loop : goal.invariant-loop
+invariant-loop l = AllByRecursion IsWellMadeLine l.lines.items

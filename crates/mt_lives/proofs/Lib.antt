@@ -1,0 +1,4 @@
+pub mod Attempts
+pub mod Valid
+pub mod Chains
+pub mod LifeWorked
