@@ -43,7 +43,7 @@ use Rattle.mt_types.specs.declared.limits.TheConstants.{MOST_COMMANDS}
 use Rattle.mt_types.specs.declared.object.Object.{Object}
 use Rattle.mt_types.specs.declared.reply.Reply.{Reply}
 use Rattle.mt_api.specs.Answered.{Asked, Gives, answer_at, used}
-use Rattle.mt_api.specs.Steps.{IsHeld, IsReady, Keeps, Replies, Settles, call_of}
+use Rattle.mt_api.specs.Steps.{IsHeld, IsReady, Replies, Settles, call_of}
 use Rattle.mt_api.specs.declared.answered.Answered.{Answered}
 use Rattle.mt_api.specs.declared.answered.Answered.TheVariants as answered
 use Rattle.mt_api.specs.declared.call.Call.{Call}
@@ -183,27 +183,3 @@ module _ (seen : Option Files) (engine : EngineState) (run : RunState) (base : S
   leaves_added moment left_since old new result k (inl at) leaves =
       leaves_more moment left_since old new base h h (h ++ command_with (bytes_of qs) command ∷ []) (front_of h (command_with (bytes_of qs) command)) (leaves_at moment left_since old new base h k h at leaves)
   leaves_added moment left_since old new result k (inr x) leaves = leaves_at moment left_since old new base h k (h ++ command_with (bytes_of qs) command ∷ []) x.0 leaves
-
-keeps_by : (result : Answered) (engine engine' new : EngineState) → engine' ≡ new → new.log.limit ≡ engine.log.limit → new.log.is_old ≡ engine.log.is_old → new.log.closed ≡ false → Keeps result engine engine'
-keeps_by result engine engine' new is limit old is_open = record {
-  limit = λ o. ap (λ (x : EngineState). x.log.limit) is ∙ limit;
-  version = λ o. ap (λ (x : EngineState). x.log.is_old) is ∙ old;
-  live = λ d m. ap (λ (x : EngineState). x.log.closed) is ∙ is_open;
-}
-
-pub keeps_closed : (result : Answered) (engine engine' : EngineState) → engine'.log.closed ≡ true → (result ≢ answered.Disk → result ≢ answered.Memory → ⊥) → Keeps result engine engine'
-keeps_closed result engine engine' is not = record {
-  limit = λ o. absurd (true≢false (sym is ∙ o));
-  version = λ o. absurd (true≢false (sym is ∙ o));
-  live = λ d m. absurd (not d m);
-}
-
--- what an engine keeps that ends a run with a command
-pub keeps_accepted : (answer : Accepted) (result : Answered) (engine : EngineState) (run : RunState) (command : Command Body) (engine' : EngineState) → engine.log.closed ≡ false → Decided answer engine run command engine'
-    → (answer ≡ accepted.Disk → result ≡ answered.Disk) → (answer ≡ accepted.Memory → result ≡ answered.Memory) → Keeps result engine engine'
-keeps_accepted accepted.Added result engine run command engine' is_open d disk memory = keeps_by result engine engine' (with_command engine run command) d.1 refl refl is_open
-keeps_accepted (accepted.Refused r) result engine run command engine' is_open d disk memory = keeps_by result engine engine' (with_run engine run) d.1 refl refl is_open
-keeps_accepted accepted.Full result engine run command engine' is_open d disk memory = keeps_by result engine engine' (with_run engine run) d.2 refl refl is_open
-keeps_accepted accepted.Disk result engine run command engine' is_open d disk memory = keeps_closed result engine engine' d (λ x y. x (disk refl))
-keeps_accepted accepted.Memory result engine run command engine' is_open d disk memory = keeps_closed result engine engine' d (λ x y. y (memory refl))
-keeps_accepted accepted.Closed result engine run command engine' is_open d disk memory = keeps_by result engine engine' engine d.1 refl refl is_open

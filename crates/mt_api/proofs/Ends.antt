@@ -1,6 +1,7 @@
 -- A run that is ended without a command, and the answer to it.
-use Rattle.std.proofs.Common.{◌≡◌, ◌≢◌, ℕ, ◌+◌, false, inl, inr, [], ◌++◌, Option, refl, sym, ap, ◌∙◌, subst, append_assoc, append-nil}
+use Rattle.std.proofs.Common.{◌≡◌, ◌≢◌, ℕ, ◌+◌, false, inl, inr, [], ◌++◌, Option, refl, sym, ap, ◌∙◌, subst, append_assoc, append-nil, arith}
 use Rattle.mt_answer.specs.Answer.{Answer}
+use Rattle.mt_base.specs.Counts.{Rose}
 use Rattle.mt_base.specs.Lists.{IsPrefixOf}
 use Rattle.mt_body.specs.Stored.{bytes_of}
 use Rattle.mt_disk.specs.Files.{Files}
@@ -8,11 +9,13 @@ use Rattle.mt_disk.specs.CrashModel.{LeavesOnly}
 use Rattle.mt_disk.proofs.Moments.{joins, weakens}
 use Rattle.mt_engine.specs.Current.{EngineState, IsBetween, IsCurrent}
 use Rattle.mt_engine.specs.History.{Bytes, HasHistory, History}
+use Rattle.mt_engine.specs.Ready.{EngineStays}
 use Rattle.mt_engine.proofs.Ends.{all_of}
 use Rattle.mt_error.specs.declared.refused.Refused.{Refused}
 use Rattle.mt_http.specs.declared.message.Ending.TheVariants as ending
 use Rattle.mt_http.specs.declared.stage.Stage.{Stage}
 use Rattle.mt_http.specs.declared.stage.Stage.TheVariants as at
+use Rattle.mt_log.specs.LogState.{Stands}
 use Rattle.mt_log.specs.RunState.{RunState}
 use Rattle.mt_model.specs.State.{State}
 use Rattle.mt_reply.specs.Replies.{error_reply}
@@ -23,7 +26,8 @@ use Rattle.mt_types.specs.declared.reply.Reply.{Reply}
 use Rattle.mt_types.specs.declared.reply.ReplyBody.{ReplyBody}
 use Rattle.mt_types.specs.declared.reply.ReplyBody.TheVariants.{Held, Part}
 use Rattle.mt_api.specs.Answered.{CanBeSent, EndsBody, Shows, used}
-use Rattle.mt_api.specs.Steps.{AreHeld, EndsWith, IsHeld, IsSettled, Keeps, Replies, Settles}
+use Rattle.mt_api.specs.GoingOn.{StepKeeps}
+use Rattle.mt_api.specs.Steps.{AreHeld, EndsWith, IsHeld, IsSettled, Replies, Settles}
 use Rattle.mt_api.specs.declared.answered.Answered.{Answered}
 use Rattle.mt_api.specs.declared.answered.Answered.TheVariants as answered
 
@@ -111,6 +115,11 @@ settled_over answered.Memory stage settled over = tt
 pub settled_not : (result : Answered) → IsSettled result → result ≡ answered.SourceFault → ⊥
 settled_not result settled is = subst IsSettled is settled
 
+-- nor behind a run that is ended, where this isn't what is answered
+pub ended_not : (result answer : Answered) (engine : EngineState) (run : RunState) (engine' : EngineState) → EndsWith result answer engine run engine' → answer ≢ answered.SourceFault → result ≡ answered.SourceFault → ⊥
+ended_not result answer engine run engine' (inl e) not is = not (sym e.0 ∙ is)
+ended_not result answer engine run engine' (inr e) not is = let d : answered.Disk ≡ answered.SourceFault = sym e.0 ∙ is in cc
+
 -- no reply is a fault of the disk
 pub not_disk : (result : Answered) (said : Reply Body) → Replies result said → result ≢ answered.Disk
 not_disk (answered.Replied reply) said is e = cc
@@ -121,20 +130,42 @@ not_disk answered.Memory said is e = cc
 
 -- ---- engines
 
-pub keeps_same : (result : Answered) (engine : EngineState) → engine.log.closed ≡ false → Keeps result engine engine
-keeps_same result engine is_open = record { limit = λ o. refl; version = λ o. refl; live = λ d m. is_open }
+live_ended : (result answer : Answered) (engine : EngineState) (run : RunState) (engine' : EngineState) → engine.log.closed ≡ false → EndsWith result answer engine run engine'
+    → result ≢ answered.Disk → result ≢ answered.Memory → engine'.log.closed ≡ false
+live_ended result answer engine run engine' is_open (inl e) d m = ap (λ (x : EngineState). x.log.closed) e.1 ∙ is_open
+live_ended result answer engine run engine' is_open (inr e) d m = absurd (d e.0)
 
-pub keeps_ended : (result answer : Answered) (engine : EngineState) (run : RunState) (engine' : EngineState) → engine.log.closed ≡ false → EndsWith result answer engine run engine' → Keeps result engine engine'
-keeps_ended result answer engine run engine' is_open (inl e) = record {
-  limit = λ o. ap (λ (x : EngineState). x.log.limit) e.1;
-  version = λ o. ap (λ (x : EngineState). x.log.is_old) e.1;
-  live = λ d m. ap (λ (x : EngineState). x.log.closed) e.1 ∙ is_open;
-}
-keeps_ended result answer engine run engine' is_open (inr e) = record {
-  limit = λ o. ap (λ (x : EngineState). x.log.limit) e.1;
-  version = λ o. ap (λ (x : EngineState). x.log.is_old) e.1;
-  live = λ d m. absurd (d e.0);
-}
+module _ {D : Type 0} (seen : D → Option Files) (may_leave : D → Files → Type 0) (count : D → ℕ) where
+  -- an engine that isn't called
+  pub idle_keeps : (disk : D) (result : Answered) (engine : EngineState) → engine.log.closed ≡ false → Stands seen may_leave disk engine.log → result ≢ answered.Disk
+      → StepKeeps seen may_leave count disk disk result engine engine
+  idle_keeps disk result engine is_open stands not = record {
+    stays = record { told = λ o. refl; version = λ o. refl; limit = λ o. refl; faults = omega arith };
+    stands = stands;
+    live = λ d m. is_open;
+    disk = λ d. absurd (not d);
+  }
+
+  -- one whose run is ended without a command
+  pub ended_keeps : (old new : D) (result answer : Answered) (engine : EngineState) (run : RunState) (engine' : EngineState) → engine.log.closed ≡ false → EndsWith result answer engine run engine'
+      → EngineStays seen count old new engine engine' → Stands seen may_leave new engine'.log → (result ≡ answered.Disk → Rose (count old) (count new)) → StepKeeps seen may_leave count old new result engine engine'
+  ended_keeps old new result answer engine run engine' is_open ends stays stands disk =
+      record { stays = stays; stands = stands; live = live_ended result answer engine run engine' is_open ends; disk = disk }
+
+  -- and one behind a call that left it open
+  pub behind_keeps : (old mid new : D) (result : Answered) (before engine engine' : EngineState) → engine.log.closed ≡ false → EngineStays seen count old mid before engine
+      → StepKeeps seen may_leave count mid new result engine engine' → StepKeeps seen may_leave count old new result before engine'
+  behind_keeps old mid new result before engine engine' is_open first next = record {
+    stays = record {
+      told = λ o. next.stays.told o ∙ first.told is_open;
+      version = λ o. next.stays.version o ∙ first.version is_open;
+      limit = λ o. next.stays.limit o ∙ first.limit is_open;
+      faults = let a = first.faults in let b = next.stays.faults in omega arith;
+    };
+    stands = next.stands;
+    live = next.live;
+    disk = λ e. let a = first.faults in let b = next.disk e in omega arith;
+  }
 
 -- ---- refusals
 
@@ -169,6 +200,15 @@ module _ (stamp : Stamp) (why : Refused) (before grew : ℕ) (base : State Bytes
 
 pub memory_not_disk : answered.Memory ≢ answered.Disk
 memory_not_disk e = cc
+
+pub replied_not_disk : (reply : Reply Body) → answered.Replied reply ≢ answered.Disk
+replied_not_disk reply e = cc
+
+pub memory_not_source : answered.Memory ≢ answered.SourceFault
+memory_not_source e = cc
+
+pub disk_not_source : answered.Disk ≢ answered.SourceFault
+disk_not_source e = cc
 
 -- want of memory before the command of a run
 pub memory_settles : (answer : Answer Bytes) (before : ℕ) (base : State Bytes) (h : History) (seen' : Option Files) (result : Answered) (engine : EngineState) (run : RunState) (engine' : EngineState)

@@ -1,5 +1,5 @@
 -- What was read of a body, and what was left of it.
-use Rattle.std.proofs.Common.{◌≡◌, ◌≢◌, ℕ, List, [], ◌++◌, Option, Some, None, refl, sym, ap, ◌∙◌, subst, append_assoc, append-nil}
+use Rattle.std.proofs.Common.{◌≡◌, ◌≢◌, ℕ, List, [], ◌++◌, Option, Some, None, refl, sym, ap, ◌∙◌, subst, append_assoc, append-nil, arith}
 use Rattle.std.specs.Prelude.{option_map}
 use Rattle.mt_body.specs.Filling.{AtEnd}
 use Rattle.mt_edge.specs.Stream.{LeftAfter}
@@ -9,6 +9,8 @@ use Rattle.mt_http.specs.declared.message.Ending.{Ending}
 use Rattle.mt_http.specs.declared.message.Ending.TheVariants as ending
 use Rattle.mt_http.specs.declared.stage.Stage.TheVariants as at
 use Rattle.mt_http.proofs.Bodies.{told_over}
+use Rattle.mt_http.specs.declared.stream.BodyStream.{BodyStream}
+use Rattle.mt_api.specs.GoingOn.{BodyGoesOn}
 use Rattle.mt_api.specs.Steps.{EndsSo, IsAll, IsFront, ReadsSo, end_of}
 use Rattle.mt_api.specs.declared.bodies.BodyEnd.{BodyEnd}
 use Rattle.mt_api.specs.declared.bodies.BodyEnd.TheVariants as body_end
@@ -92,3 +94,21 @@ never_endless (Some ending.Whole) is = cc
 never_endless (Some ending.Truncated) is = cc
 never_endless (Some ending.Bad) is = cc
 never_endless (Some ending.TooLarge) is = cc
+
+-- a body is read further, and then further
+module _ {X : Type 0} (left : X → Option (List ℕ)) (count : X → ℕ) (alone : X → X → Type 0) where
+  pub read_further : ((a b c : X) → alone a b → alone b c → alone a c) → (a b c : BodyStream X) (f g : Type 0) → BodyGoesOn left count alone a b f → BodyGoesOn left count alone b c g → BodyGoesOn left count alone a c g
+  read_further joined a b c f g first next = record {
+    source = next.source ∙ first.source;
+    stays = joined a.source.now b.source.now c.source.now first.stays next.stays;
+    after = next.after ∙ first.after;
+    reads = let x = first.reads in let y = next.reads in omega arith;
+    failed = λ is. let x = first.reads in let y = next.failed is in omega arith;
+  }
+
+  -- whatever is answered, where nothing failed
+  pub read_well : (a b : BodyStream X) (f g : Type 0) → ¬ g → BodyGoesOn left count alone a b f → BodyGoesOn left count alone a b g
+  read_well a b f g not is = record { source = is.source; stays = is.stays; after = is.after; reads = is.reads; failed = λ x. absurd (not x) }
+
+  pub read_as : (a b : BodyStream X) (f g : Type 0) → (g → f) → BodyGoesOn left count alone a b f → BodyGoesOn left count alone a b g
+  read_as a b f g same is = record { source = is.source; stays = is.stays; after = is.after; reads = is.reads; failed = λ x. is.failed (same x) }

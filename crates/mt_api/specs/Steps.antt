@@ -170,12 +170,6 @@ Goes answered.Disk asked engine base h left stage' seen' engine' k =
     × ((k ≡ h) ⊎ ((bytes : Bytes) × IsAll left bytes × (stage' ≡ at.Over ending.Whole) × (k ≡ h ++ (answer_at asked engine (replay base h) bytes).added)))
 Goes answered.Memory asked engine base h left stage' seen' engine' k = (k ≡ h) × (engine'.log.closed ≡ false → IsCurrent seen' engine' base h)
 
--- what an engine keeps that goes on
-pub record Keeps (result : Answered) (engine engine' : EngineState) : Type 0 where
-  pub limit : engine'.log.closed ≡ false → engine'.log.limit ≡ engine.log.limit
-  pub version : engine'.log.closed ≡ false → engine'.log.is_old ≡ engine.log.is_old
-  pub live : result ≢ answered.Disk → result ≢ answered.Memory → engine'.log.closed ≡ false
-
 -- ---- puts
 
 -- of a body that has no room: its digest is judged before the room

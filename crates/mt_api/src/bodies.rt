@@ -2,10 +2,10 @@
 ghost use Rattle.std.specs.Prelude.{◌≡◌, ◌≢◌, ◌++◌, ℕ, List, Some, None};
 ghost use Rattle.md5.specs.Md5.{Holds};
 ghost use Rattle.mt_api.specs.Steps.{EndsSo, ReadsSo, RestEnds, RestReads, end_of};
-ghost use Rattle.mt_base.specs.Counts.{NeverFell, Rose};
-ghost use Rattle.mt_http.specs.BodyReading.{after_body, body_left};
+ghost use Rattle.mt_http.specs.BodyReading.{body_left};
 ghost use Rattle.mt_request.specs.Digest.{digest_refusal};
 ghost use Rattle.mt_request.specs.declared.digest.Wish.{Wish};
+ghost use Rattle.mt_api.specs.GoingOn.{BodyGoesOn};
 
 use md5::{Digest, Md5};
 use mt_body::{Drained, digest_rest};
@@ -55,11 +55,7 @@ fn end_of(ending: Option<Ending>) -> BodyEnd
 pub(crate) fn end_body<S: Source>(body: &mut BodyStream<'_, S>) -> BodyEnd
     ensures over { EndsSo result body.new.framer.stage }
     ensures ends { result ≢ BodyEnd.Endless }
-    ensures failed { result ≡ BodyEnd.SourceFault → Rose (S.read_faults body.old.source.now) (S.read_faults body.new.source.now) }
-    ensures reads { NeverFell (S.read_faults body.old.source.now) (S.read_faults body.new.source.now) }
-    ensures source { body.new.source.ghost_name ≡ body.old.source.ghost_name }
-    ensures stays { S.source_stays body.old.source.now body.new.source.now }
-    ensures after { after_body body.new.framer (S.left body.new.source.now) ≡ after_body body.old.framer (S.left body.old.source.now) }
+    ensures body { BodyGoesOn S.left S.read_faults S.source_stays body.old body.new (result ≡ BodyEnd.SourceFault) }
 {
     let ending = body.finish();
     end_of(ending)
@@ -70,11 +66,7 @@ pub(crate) fn digest_body<S: Source>(body: &mut BodyStream<'_, S>, sum: &mut Md5
     ensures drains { (bytes : List ℕ) × ReadsSo result (body_left body.old.framer (S.left body.old.source.now)) bytes
         × ((front : List ℕ) → Holds sum.old front → Holds sum.new (front ++ bytes)) }
     ensures over { EndsSo result body.new.framer.stage }
-    ensures failed { result ≡ BodyEnd.SourceFault → Rose (S.read_faults body.old.source.now) (S.read_faults body.new.source.now) }
-    ensures reads { NeverFell (S.read_faults body.old.source.now) (S.read_faults body.new.source.now) }
-    ensures source { body.new.source.ghost_name ≡ body.old.source.ghost_name }
-    ensures stays { S.source_stays body.old.source.now body.new.source.now }
-    ensures after { after_body body.new.framer (S.left body.new.source.now) ≡ after_body body.old.framer (S.left body.old.source.now) }
+    ensures body { BodyGoesOn S.left S.read_faults S.source_stays body.old body.new (result ≡ BodyEnd.SourceFault) }
 {
     match digest_rest(body, sum) {
         Drained::Ended => end_body(body),
@@ -87,11 +79,7 @@ pub(crate) fn digest_body<S: Source>(body: &mut BodyStream<'_, S>, sum: &mut Md5
 fn read_digested<S: Source>(body: &mut BodyStream<'_, S>) -> Rest
     ensures tells { (wish : Wish) → (bytes : List ℕ) × RestReads result wish (body_left body.old.framer (S.left body.old.source.now)) bytes }
     ensures over { RestEnds result body.new.framer.stage }
-    ensures failed { result ≡ Rest.SourceFault → Rose (S.read_faults body.old.source.now) (S.read_faults body.new.source.now) }
-    ensures reads { NeverFell (S.read_faults body.old.source.now) (S.read_faults body.new.source.now) }
-    ensures source { body.new.source.ghost_name ≡ body.old.source.ghost_name }
-    ensures stays { S.source_stays body.old.source.now body.new.source.now }
-    ensures after { after_body body.new.framer (S.left body.new.source.now) ≡ after_body body.old.framer (S.left body.old.source.now) }
+    ensures body { BodyGoesOn S.left S.read_faults S.source_stays body.old body.new (result ≡ Rest.SourceFault) }
 {
     let mut sum = Md5::new();
     match digest_body(body, &mut sum) {
@@ -108,18 +96,13 @@ fn read_dropped<S: Source>(body: &mut BodyStream<'_, S>) -> Rest
     ensures tells { (wish : Wish) → ((digest : List ℕ) → digest_refusal wish (Some digest) ≡ digest_refusal wish None)
         → (bytes : List ℕ) × RestReads result wish (body_left body.old.framer (S.left body.old.source.now)) bytes }
     ensures over { RestEnds result body.new.framer.stage }
-    ensures failed { result ≡ Rest.SourceFault → Rose (S.read_faults body.old.source.now) (S.read_faults body.new.source.now) }
-    ensures reads { NeverFell (S.read_faults body.old.source.now) (S.read_faults body.new.source.now) }
-    ensures source { body.new.source.ghost_name ≡ body.old.source.ghost_name }
-    ensures stays { S.source_stays body.old.source.now body.new.source.now }
-    ensures after { after_body body.new.framer (S.left body.new.source.now) ≡ after_body body.old.framer (S.left body.old.source.now) }
+    ensures body { BodyGoesOn S.left S.read_faults S.source_stays body.old body.new (result ≡ Rest.SourceFault) }
 {
     match end_body(body) {
         BodyEnd::Whole => Rest::Whole(None),
         BodyEnd::Unfinished(ending) => Rest::Unfinished(ending),
         BodyEnd::SourceFault => Rest::SourceFault,
-        // never
-        BodyEnd::Endless => Rest::Memory,
+        BodyEnd::Endless => unreachable!(),
     }
 }
 
@@ -127,11 +110,7 @@ fn read_dropped<S: Source>(body: &mut BodyStream<'_, S>) -> Rest
 pub(crate) fn read_rest<S: Source>(wish: &Wish, body: &mut BodyStream<'_, S>) -> Rest
     ensures tells { (bytes : List ℕ) × RestReads result wish.now (body_left body.old.framer (S.left body.old.source.now)) bytes }
     ensures over { RestEnds result body.new.framer.stage }
-    ensures failed { result ≡ Rest.SourceFault → Rose (S.read_faults body.old.source.now) (S.read_faults body.new.source.now) }
-    ensures reads { NeverFell (S.read_faults body.old.source.now) (S.read_faults body.new.source.now) }
-    ensures source { body.new.source.ghost_name ≡ body.old.source.ghost_name }
-    ensures stays { S.source_stays body.old.source.now body.new.source.now }
-    ensures after { after_body body.new.framer (S.left body.new.source.now) ≡ after_body body.old.framer (S.left body.old.source.now) }
+    ensures body { BodyGoesOn S.left S.read_faults S.source_stays body.old body.new (result ≡ Rest.SourceFault) }
 {
     match wish {
         Wish::Wants(_) => read_digested(body),

@@ -1,19 +1,15 @@
 //! Requests that change the account: the command that ends a run.
-ghost use Rattle.std.specs.Prelude.{◌≡◌, ◌≢◌, ◌≤◌, ℕ, List, false, IsTrue, IfOk, is_some};
+ghost use Rattle.std.specs.Prelude.{◌≡◌, ◌≤◌, ℕ, List, false, IfOk, is_some};
 ghost use Rattle.mt_answer.specs.Answer as words;
 ghost use Rattle.mt_answer.specs.Judging.{len_of, md5_of};
 ghost use Rattle.mt_api.specs.Answered.{Asked, answer_at, used};
-ghost use Rattle.mt_api.specs.Steps.{AreHeld, Adds, IsReady, IsSettled, Keeps, Settles, call_of};
-ghost use Rattle.mt_base.specs.Counts.{NeverFell, Rose};
+ghost use Rattle.mt_api.specs.Steps.{Adds, IsReady, Settles, call_of};
 ghost use Rattle.mt_disk.specs.CrashModel.{LeavesOnly};
 ghost use Rattle.mt_engine.specs.Current.{IsBetween};
 ghost use Rattle.mt_engine.specs.History.{Bytes, History};
-ghost use Rattle.mt_log.specs.LogState.{Stands};
-ghost use Rattle.mt_log.specs.RunState.{Running};
 ghost use Rattle.mt_model.specs.CommandStep.{replay};
 ghost use Rattle.mt_model.specs.State.{State};
-ghost use Rattle.mt_request.specs.Laws.{FitsDoing};
-ghost use Rattle.mt_types.specs.Limits.{is_placed};
+ghost use Rattle.mt_api.specs.GoingOn.{CallInRun, SettlesInRun};
 
 use crate::answered::Answered;
 use crate::call::Call;
@@ -86,24 +82,13 @@ pub(crate) fn add<D: Disk>(
     call: Call,
     body: Body,
 ) -> Answered
-    requires running { Running D.seen D.may_leave disk.old engine.old.log run }
-    requires order { engine.old.log.closed ≡ false → engine.old.log.gate ≤ run.next }
-    requires is_open { engine.old.log.closed ≡ false }
-    requires moment { call.stamp.moment ≤ LAST_MOMENT }
-    requires fits { FitsDoing call.request.doing }
-    requires placed { IsTrue (is_placed body) }
+    requires ready { CallInRun D.seen D.may_leave disk.old engine.old run call body }
     requires adds { Adds engine.old call.request.doing }
     ensures settles { (base : State Bytes) (h : History) (qs : List (List ℕ)) (asked : Asked) (bytes : Bytes) → call ≡ call_of asked engine.old →
         IsReady (D.seen disk.old) engine.old run base h qs call body bytes →
         (k : History) × Settles result (answer_at asked engine.old (replay base h) bytes) (used engine.old) base h (D.seen disk.new) engine.new k
         × LeavesOnly D.moment D.left_since disk.old disk.new (IsBetween base h k) }
-    ensures held { AreHeld result }
-    ensures settled { IsSettled result }
-    ensures keeps { Keeps result engine.old engine.new }
-    ensures stands { Stands D.seen D.may_leave disk.new engine.new.log }
-    ensures told { engine.new.log.closed ≡ false → is_some (D.seen disk.new) ≡ is_some (D.seen disk.old) }
-    ensures disk { result ≡ Answered.Disk → Rose (D.faults disk.old) (D.faults disk.new) }
-    ensures faults { NeverFell (D.faults disk.old) (D.faults disk.new) }
+    ensures settled { SettlesInRun D.seen D.may_leave D.faults disk.old disk.new result engine.old engine.new }
 {
     let stamp = call.stamp;
     let position = engine.position() + 1;
@@ -113,8 +98,7 @@ pub(crate) fn add<D: Disk>(
     };
     let command = match command_of(engine.tree(), call.request.doing, body, stamp.moment) {
         Some(command) => command,
-        // never
-        None => return end_with(engine, disk, run, Answered::Memory),
+        None => unreachable!(),
     };
     match engine.accept(alloc, disk, run, command) {
         Accepted::Added => Answered::Replied(reply),
@@ -123,7 +107,6 @@ pub(crate) fn add<D: Disk>(
         Accepted::Memory => Answered::Memory,
         // never, since it was judged before
         Accepted::Refused(_) => Answered::Memory,
-        // never, since the engine is open
-        Accepted::Closed => Answered::Memory,
+        Accepted::Closed => unreachable!(),
     }
 }

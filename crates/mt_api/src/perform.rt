@@ -1,21 +1,18 @@
 //! Requests whose body isn't stored.
-ghost use Rattle.std.specs.Prelude.{◌≡◌, ◌≤◌, Some, None, false, is_some};
-ghost use Rattle.std.specs.Option.{option_copied};
+ghost use Rattle.std.specs.Prelude.{◌≡◌, ◌≤◌, Some, None};
 ghost use Rattle.md5.specs.Md5.{md5};
 ghost use Rattle.mt_answer.specs.Judging.{len_of, md5_of};
 ghost use Rattle.mt_answer.specs.Answer as words;
 ghost use Rattle.mt_api.specs.Answered.{Asked, CanBeSent, EndsBody, answer_at, used};
-ghost use Rattle.mt_api.specs.Steps.{Goes, IsPlain, IsSettled, Keeps, Replies, Settles, call_of, refusal};
-ghost use Rattle.mt_base.specs.Counts.{NeverFell, Rose};
+ghost use Rattle.mt_api.specs.Steps.{Goes, IsPlain, Replies, Settles, call_of, refusal};
 ghost use Rattle.mt_disk.specs.CrashModel.{LeavesOnly};
-ghost use Rattle.mt_engine.specs.Current.{IsBetween, IsCurrent, Serves};
+ghost use Rattle.mt_engine.specs.Current.{IsBetween, IsCurrent};
 ghost use Rattle.mt_engine.specs.History.{Bytes, History};
-ghost use Rattle.mt_http.specs.BodyReading.{after_body, body_left};
-ghost use Rattle.mt_log.specs.LogState.{Stands};
+ghost use Rattle.mt_http.specs.BodyReading.{body_left};
 ghost use Rattle.mt_model.specs.CommandStep.{replay};
 ghost use Rattle.mt_model.specs.State.{State};
 ghost use Rattle.mt_request.specs.Digest.{digest_refusal};
-ghost use Rattle.mt_request.specs.Laws.{FitsDoing};
+ghost use Rattle.mt_api.specs.GoingOn.{BodyGoesOn, CallIsReady, SettlesCall, StepKeeps};
 
 use crate::answered::Answered;
 use crate::bodies::{Rest, read_rest};
@@ -51,24 +48,13 @@ fn look(alloc: Global, engine: &Engine, call: &Call) -> Answered
 }
 
 // Does what is asked for, which isn't refused.
-fn perform<D: Disk>(alloc: Global, engine: &mut Engine, disk: &mut D, call: Call) -> Answered
-    requires stands { Stands D.seen D.may_leave disk.old engine.old.log }
-    requires is_open { engine.old.log.closed ≡ false }
-    requires version { engine.old.log.is_old ≡ false }
-    requires serves { Serves (D.seen disk.old) engine.old }
-    requires moment { call.stamp.moment ≤ LAST_MOMENT }
-    requires fits { FitsDoing call.request.doing }
+fn carry_out<D: Disk>(alloc: Global, engine: &mut Engine, disk: &mut D, call: Call) -> Answered
+    requires ready { CallIsReady D.seen D.may_leave disk.old engine.old call }
     ensures settles { (base : State Bytes) (h : History) (asked : Asked) (bytes : Bytes) → IsCurrent (D.seen disk.old) engine.old base h → IsPlain engine.old call → call ≡ call_of asked engine.old →
         refusal engine.old call (Some (md5 bytes)) ≡ None →
         (k : History) × Settles result (answer_at asked engine.old (replay base h) bytes) (used engine.old) base h (D.seen disk.new) engine.new k
         × LeavesOnly D.moment D.left_since disk.old disk.new (IsBetween base h k) }
-    ensures sends { CanBeSent result (D.seen disk.new) engine.new }
-    ensures settled { IsSettled result }
-    ensures keeps { Keeps result engine.old engine.new }
-    ensures stands { Stands D.seen D.may_leave disk.new engine.new.log }
-    ensures told { engine.new.log.closed ≡ false → is_some (D.seen disk.new) ≡ is_some (D.seen disk.old) }
-    ensures disk { result ≡ Answered.Disk → Rose (D.faults disk.old) (D.faults disk.new) }
-    ensures faults { NeverFell (D.faults disk.old) (D.faults disk.new) }
+    ensures settled { SettlesCall D.seen D.may_leave D.faults disk.old disk.new result engine.old engine.new }
 {
     if !adds(engine.tree(), &call.request.doing) {
         return look(alloc, engine, &call);
@@ -93,69 +79,45 @@ fn refusal_by(engine: &Engine, call: &Call, digest: Option<[u8; 16]>) -> Option<
 }
 
 // Answers a call whose body was read and isn't stored, by its digest where that is wanted.
-fn settle<D: Disk>(
+fn judge_unstored<D: Disk>(
     alloc: Global,
     engine: &mut Engine,
     disk: &mut D,
     call: Call,
     digest: Option<[u8; 16]>,
 ) -> Answered
-    requires stands { Stands D.seen D.may_leave disk.old engine.old.log }
-    requires is_open { engine.old.log.closed ≡ false }
-    requires version { engine.old.log.is_old ≡ false }
-    requires serves { Serves (D.seen disk.old) engine.old }
-    requires moment { call.stamp.moment ≤ LAST_MOMENT }
-    requires fits { FitsDoing call.request.doing }
+    requires ready { CallIsReady D.seen D.may_leave disk.old engine.old call }
     ensures settles { (base : State Bytes) (h : History) (asked : Asked) (bytes : Bytes) → IsCurrent (D.seen disk.old) engine.old base h → IsPlain engine.old call → call ≡ call_of asked engine.old →
         digest_refusal call.request.wish digest ≡ digest_refusal call.request.wish (Some (md5 bytes)) →
         (k : History) × Settles result (answer_at asked engine.old (replay base h) bytes) (used engine.old) base h (D.seen disk.new) engine.new k
         × LeavesOnly D.moment D.left_since disk.old disk.new (IsBetween base h k) }
-    ensures sends { CanBeSent result (D.seen disk.new) engine.new }
-    ensures settled { IsSettled result }
-    ensures keeps { Keeps result engine.old engine.new }
-    ensures stands { Stands D.seen D.may_leave disk.new engine.new.log }
-    ensures told { engine.new.log.closed ≡ false → is_some (D.seen disk.new) ≡ is_some (D.seen disk.old) }
-    ensures disk { result ≡ Answered.Disk → Rose (D.faults disk.old) (D.faults disk.new) }
-    ensures faults { NeverFell (D.faults disk.old) (D.faults disk.new) }
+    ensures settled { SettlesCall D.seen D.may_leave D.faults disk.old disk.new result engine.old engine.new }
 {
     match refusal_by(engine, &call, digest) {
         Some(why) => refuse(alloc, call.stamp, why),
-        None => perform(alloc, engine, disk, call),
+        None => carry_out(alloc, engine, disk, call),
     }
 }
 
 /// Answers a call whose body isn't stored: it is refused whatever its body is, or puts no object.
-pub(crate) fn answer_plain<D: Disk, S: Source>(
+pub(crate) fn answer_unstored<D: Disk, S: Source>(
     alloc: Global,
     engine: &mut Engine,
     disk: &mut D,
     call: Call,
     stream: &mut BodyStream<'_, S>,
 ) -> Answered
-    requires stands { Stands D.seen D.may_leave disk.old engine.old.log }
-    requires is_open { engine.old.log.closed ≡ false }
-    requires version { engine.old.log.is_old ≡ false }
-    requires serves { Serves (D.seen disk.old) engine.old }
-    requires moment { call.stamp.moment ≤ LAST_MOMENT }
-    requires fits { FitsDoing call.request.doing }
+    requires ready { CallIsReady D.seen D.may_leave disk.old engine.old call }
     ensures goes { (base : State Bytes) (h : History) (asked : Asked) → IsCurrent (D.seen disk.old) engine.old base h → IsPlain engine.old call → call ≡ call_of asked engine.old →
         (k : History) × Goes result asked engine.old base h (body_left stream.old.framer (S.left stream.old.source.now)) stream.new.framer.stage (D.seen disk.new) engine.new k
         × LeavesOnly D.moment D.left_since disk.old disk.new (IsBetween base h k) }
     ensures over { EndsBody result stream.new.framer.stage }
     ensures sends { CanBeSent result (D.seen disk.new) engine.new }
-    ensures keeps { Keeps result engine.old engine.new }
-    ensures stands { Stands D.seen D.may_leave disk.new engine.new.log }
-    ensures told { engine.new.log.closed ≡ false → is_some (D.seen disk.new) ≡ is_some (D.seen disk.old) }
-    ensures disk { result ≡ Answered.Disk → Rose (D.faults disk.old) (D.faults disk.new) }
-    ensures faults { NeverFell (D.faults disk.old) (D.faults disk.new) }
-    ensures failed { result ≡ Answered.SourceFault → Rose (S.read_faults stream.old.source.now) (S.read_faults stream.new.source.now) }
-    ensures reads { NeverFell (S.read_faults stream.old.source.now) (S.read_faults stream.new.source.now) }
-    ensures source { stream.new.source.ghost_name ≡ stream.old.source.ghost_name }
-    ensures stays { S.source_stays stream.old.source.now stream.new.source.now }
-    ensures after { after_body stream.new.framer (S.left stream.new.source.now) ≡ after_body stream.old.framer (S.left stream.old.source.now) }
+    ensures keeps { StepKeeps D.seen D.may_leave D.faults disk.old disk.new result engine.old engine.new }
+    ensures body { BodyGoesOn S.left S.read_faults S.source_stays stream.old stream.new (result ≡ Answered.SourceFault) }
 {
     match read_rest(&call.request.wish, stream) {
-        Rest::Whole(digest) => settle(alloc, engine, disk, call, digest),
+        Rest::Whole(digest) => judge_unstored(alloc, engine, disk, call, digest),
         Rest::Unfinished(ending) => Answered::Unfinished(ending),
         Rest::SourceFault => Answered::SourceFault,
         Rest::Memory => Answered::Memory,

@@ -1,15 +1,15 @@
 //! The end of a run without a command, and refusals.
-ghost use Rattle.std.specs.Prelude.{◌≡◌, ◌≢◌, ◌⊎◌, ◌≤◌, ◌+◌, ℕ, List, [], false, true, is_some};
-ghost use Rattle.mt_api.specs.Answered.{used};
-ghost use Rattle.mt_api.specs.Steps.{AreHeld, EndsWith, IsSettled, Keeps, Replies, Settles};
-ghost use Rattle.mt_base.specs.Counts.{NeverFell, Rose};
+ghost use Rattle.std.specs.Prelude.{◌≡◌, ◌≢◌, ◌≤◌, ◌+◌, ℕ, List, []};
+ghost use Rattle.mt_api.specs.Steps.{EndsWith, Replies, Settles};
+ghost use Rattle.mt_base.specs.Counts.{Rose};
 ghost use Rattle.mt_disk.specs.CrashModel.{LeavesOnly};
-ghost use Rattle.mt_engine.specs.Current.{IsBetween, IsCurrent, IsWriting};
+ghost use Rattle.mt_engine.specs.Current.{IsCurrent, IsWriting};
 ghost use Rattle.mt_engine.specs.History.{Bytes, HasHistory, History};
 ghost use Rattle.mt_log.specs.LogState.{Stands};
-ghost use Rattle.mt_log.specs.RunState.{Running};
 ghost use Rattle.mt_model.specs.State.{State};
 ghost use Rattle.mt_reply.specs.Replies as words;
+ghost use Rattle.mt_api.specs.GoingOn.{SettlesInRun};
+ghost use Rattle.mt_engine.specs.Ready.{EngineStays, RunIsReady};
 
 use crate::answered::Answered;
 use mt_base::LAST_MOMENT;
@@ -27,9 +27,7 @@ pub(crate) fn end_with<D: Disk>(
     run: Run,
     answer: Answered,
 ) -> Answered
-    requires running { Running D.seen D.may_leave disk.old engine.old.log run }
-    requires order { engine.old.log.closed ≡ false → engine.old.log.gate ≤ run.next }
-    requires is_open { engine.old.log.closed ≡ false }
+    requires ready { RunIsReady D.seen D.may_leave disk.old engine.old run }
     requires no_fault { answer ≢ Answered.Disk }
     ensures ends { EndsWith result answer engine.old run engine.new }
     ensures current { (base : State Bytes) (h : History) (qs : List (List ℕ)) → IsWriting (D.seen disk.old) engine.old run base h qs →
@@ -37,9 +35,8 @@ pub(crate) fn end_with<D: Disk>(
     ensures any_moment { (base : State Bytes) (h : History) (qs : List (List ℕ)) → IsWriting (D.seen disk.old) engine.old run base h qs →
         LeavesOnly D.moment D.left_since disk.old disk.new (HasHistory base h) }
     ensures stands { Stands D.seen D.may_leave disk.new engine.new.log }
-    ensures told { engine.new.log.closed ≡ false → is_some (D.seen disk.new) ≡ is_some (D.seen disk.old) }
+    ensures keeps { EngineStays D.seen D.faults disk.old disk.new engine.old engine.new }
     ensures disk { result ≡ Answered.Disk → Rose (D.faults disk.old) (D.faults disk.new) }
-    ensures faults { NeverFell (D.faults disk.old) (D.faults disk.new) }
 {
     match engine.end_run(disk, run) {
         RunEnd::Done => answer,
@@ -67,22 +64,14 @@ pub(crate) fn refuse_in<D: Disk>(
     stamp: Stamp,
     why: Refused,
 ) -> Answered
-    requires running { Running D.seen D.may_leave disk.old engine.old.log run }
-    requires order { engine.old.log.closed ≡ false → engine.old.log.gate ≤ run.next }
-    requires is_open { engine.old.log.closed ≡ false }
+    requires ready { RunIsReady D.seen D.may_leave disk.old engine.old run }
     requires moment { stamp.moment ≤ LAST_MOMENT }
     ensures settles { (base : State Bytes) (h : History) (qs : List (List ℕ)) (before grew : ℕ) → IsWriting (D.seen disk.old) engine.old run base h qs →
         run.next + 1 ≡ before + grew →
         Settles result (record { reply = words.error_reply stamp why; added = []; grew = grew }) before base h (D.seen disk.new) engine.new h }
     ensures any_moment { (base : State Bytes) (h : History) (qs : List (List ℕ)) → IsWriting (D.seen disk.old) engine.old run base h qs →
         LeavesOnly D.moment D.left_since disk.old disk.new (HasHistory base h) }
-    ensures held { AreHeld result }
-    ensures settled { IsSettled result }
-    ensures keeps { Keeps result engine.old engine.new }
-    ensures stands { Stands D.seen D.may_leave disk.new engine.new.log }
-    ensures told { engine.new.log.closed ≡ false → is_some (D.seen disk.new) ≡ is_some (D.seen disk.old) }
-    ensures disk { result ≡ Answered.Disk → Rose (D.faults disk.old) (D.faults disk.new) }
-    ensures faults { NeverFell (D.faults disk.old) (D.faults disk.new) }
+    ensures settled { SettlesInRun D.seen D.may_leave D.faults disk.old disk.new result engine.old engine.new }
 {
     let answer = refuse(alloc, stamp, why);
     end_with(engine, disk, run, answer)

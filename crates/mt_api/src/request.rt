@@ -1,20 +1,20 @@
 //! The answer to a request.
-ghost use Rattle.std.specs.Prelude.{◌≡◌, ◌≢◌, ◌≤◌, false, length, is_some, IfOk, IfSome, Option};
+ghost use Rattle.std.specs.Prelude.{◌≡◌, ◌≢◌, ◌≤◌, false, length, IfOk, IfSome, Option};
 ghost use Rattle.mt_api.specs.Answered.{Answers, CanBeSent, EndsBody, Hears, said};
 ghost use Rattle.mt_api.specs.Steps.{call_of};
-ghost use Rattle.mt_base.specs.Counts.{NeverFell, Rose};
+ghost use Rattle.mt_base.specs.Counts.{Rose};
 ghost use Rattle.mt_disk.specs.CrashModel.{LeavesOnly};
-ghost use Rattle.mt_engine.specs.Current.{IsBetween, IsCurrent, Serves};
+ghost use Rattle.mt_engine.specs.Current.{IsBetween, IsCurrent};
 ghost use Rattle.mt_engine.specs.History.{Bytes, History};
 ghost use Rattle.mt_http.specs.Body.{Told};
-ghost use Rattle.mt_http.specs.BodyReading.{after_body};
-ghost use Rattle.mt_log.specs.LogState.{Stands};
 ghost use Rattle.mt_model.specs.State.{State};
 ghost use Rattle.mt_request.specs.Laws.{FitsDoing};
+ghost use Rattle.mt_api.specs.GoingOn.{BodyGoesOn};
+ghost use Rattle.mt_engine.specs.Ready.{EngineGoesOn, EngineIsReady};
 
 use crate::answered::Answered;
 use crate::call::Call;
-use crate::perform::answer_plain;
+use crate::perform::answer_unstored;
 use crate::put::put;
 use mt_answer::stores_body;
 use mt_base::LAST_MOMENT;
@@ -68,10 +68,7 @@ pub fn answer<D: Disk, S: Source>(
     body: &mut BodyStream<'_, S>,
     now: u64,
 ) -> Answered
-    requires stands { Stands D.seen D.may_leave disk.old engine.old.log }
-    requires is_open { engine.old.log.closed ≡ false }
-    requires version { engine.old.log.is_old ≡ false }
-    requires serves { Serves (D.seen disk.old) engine.old }
+    requires ready { EngineIsReady D.seen D.may_leave disk.old engine.old }
     requires few { length head.now.fields ≤ 100 }
     requires moment { now ≤ LAST_MOMENT }
     // Of the body, where the source tells it, over any disk.
@@ -83,19 +80,10 @@ pub fn answer<D: Disk, S: Source>(
         engine.old base h (S.left body.new.source.now) (D.seen disk.new) engine.new k
         × LeavesOnly D.moment D.left_since disk.old disk.new (IsBetween base h k) }
     ensures sends { CanBeSent result (D.seen disk.new) engine.new }
-    ensures serves { Serves (D.seen disk.new) engine.new }
-    ensures stands { Stands D.seen D.may_leave disk.new engine.new.log }
-    ensures told { engine.new.log.closed ≡ false → is_some (D.seen disk.new) ≡ is_some (D.seen disk.old) }
     ensures live { result ≢ Answered.Disk → result ≢ Answered.Memory → engine.new.log.closed ≡ false }
-    ensures limit { engine.new.log.closed ≡ false → engine.new.log.limit ≡ engine.old.log.limit }
-    ensures version { engine.new.log.closed ≡ false → engine.new.log.is_old ≡ engine.old.log.is_old }
     ensures disk { result ≡ Answered.Disk → Rose (D.faults disk.old) (D.faults disk.new) }
-    ensures failed { result ≡ Answered.SourceFault → Rose (S.read_faults body.old.source.now) (S.read_faults body.new.source.now) }
-    ensures faults { NeverFell (D.faults disk.old) (D.faults disk.new) }
-    ensures reads { NeverFell (S.read_faults body.old.source.now) (S.read_faults body.new.source.now) }
-    ensures source { body.new.source.ghost_name ≡ body.old.source.ghost_name }
-    ensures stays { S.source_stays body.old.source.now body.new.source.now }
-    ensures after { after_body body.new.framer (S.left body.new.source.now) ≡ after_body body.old.framer (S.left body.old.source.now) }
+    ensures goes_on { EngineGoesOn D.seen D.may_leave D.faults disk.old disk.new engine.old engine.new }
+    ensures body { BodyGoesOn S.left S.read_faults S.source_stays body.old body.new (result ≡ Answered.SourceFault) }
 {
     let call = match read_call(alloc, login, engine, head, now) {
         Ok(call) => call,
@@ -104,6 +92,6 @@ pub fn answer<D: Disk, S: Source>(
     if stores_body(&call.request, engine.tree(), &call.conditions) {
         put(alloc, engine, disk, call, body)
     } else {
-        answer_plain(alloc, engine, disk, call, body)
+        answer_unstored(alloc, engine, disk, call, body)
     }
 }

@@ -4,6 +4,7 @@ pub mod Ends
 pub mod Held
 pub mod Histories
 pub mod Loading
+pub mod Looks
 pub mod Objects
 pub mod Openings
 pub mod Runs

@@ -53,3 +53,9 @@ same_tells seen seen' same = sym (is_some-map payloads_of seen') ∙ ap is_some 
 pub where_open : (result : RunEnd) (closed : Bool) (P : Type 0) → (result ≡ ended.Done → P) → (result ≡ ended.Disk → closed ≡ true) → closed ≡ false → P
 where_open ended.Done closed P done disk is_open = done refl
 where_open ended.Disk closed P done disk is_open = absurd (true≢false (sym (disk refl) ∙ is_open))
+
+-- a log whose run is ended, or that is closed, keeps its version and its limit
+pub ended_same : (result : RunEnd) (log log' : LogState) (gate : ℕ) → (result ≡ ended.Done → log' ≡ record log { gate = gate }) → (result ≡ ended.Disk → log' ≡ record log { closed = true })
+    → (log'.is_old ≡ log.is_old) × (log'.limit ≡ log.limit)
+ended_same ended.Done log log' gate done disk = (ap (λ (l : LogState). l.is_old) (done refl), ap (λ (l : LogState). l.limit) (done refl))
+ended_same ended.Disk log log' gate done disk = (ap (λ (l : LogState). l.is_old) (disk refl), ap (λ (l : LogState). l.limit) (disk refl))

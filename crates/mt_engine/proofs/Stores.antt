@@ -1,5 +1,5 @@
 -- A body that is stored in a run, as the engine sees it.
-use Rattle.std.proofs.Common.{◌≡◌, ◌≢◌, ℕ, Bool, true, ◌&&◌, List, [], ◌++◌, Option, refl, sym, ap, ◌∙◌, subst, append_assoc, append-nil}
+use Rattle.std.proofs.Common.{◌≡◌, ◌≢◌, ℕ, Bool, true, false, true≢false, ◌&&◌, List, [], ◌++◌, Option, refl, sym, ap, ◌∙◌, subst, append_assoc, append-nil}
 use Rattle.std.specs.List.{list_all}
 use Rattle.std.specs.Option.{ForSome}
 use Rattle.std.proofs.lemmas.List.Folds.{list_all-append}
@@ -112,3 +112,11 @@ module _ (left left' : Option (List ℕ)) (sum' : Md5) (seen seen' : Option File
   stays_open storing.SourceFault s not = s.1
   stays_open storing.Disk s not = absurd (not refl)
   stays_open storing.Memory s not = s.1
+
+  -- so it is the same where it is open
+  pub same_where_open : (result : Storing) → Stores result left left' sum' seen seen' log log' run run' → log'.closed ≡ false → log' ≡ log
+  same_where_open (storing.Stored body) s is_open = s.1
+  same_where_open storing.Full s is_open = s.2
+  same_where_open storing.SourceFault s is_open = s.1
+  same_where_open storing.Disk s is_open = absurd (true≢false (sym (ap (λ (l : LogState). l.closed) s.closed) ∙ is_open))
+  same_where_open storing.Memory s is_open = s.1

@@ -1,13 +1,14 @@
 //! The digests of bodies in a log, of which a log keeps none: they are taken once, as it is opened.
-ghost use Rattle.std.specs.Prelude.{◌≡◌, ◌<◌, ◌≤◌, ℕ, List, true, false, length, IfOk, OnOk, OnErr, IsErrOf};
+ghost use Rattle.std.specs.Prelude.{◌≡◌, ◌<◌, ℕ, List, true, length, IfOk, OnOk, OnErr, IsErrOf};
 ghost use Rattle.std.specs.Option.{ForSome};
 ghost use Rattle.md5.specs.Md5.{md5};
-ghost use Rattle.mt_base.specs.Counts.{HasCause, NeverFell, Rose};
+ghost use Rattle.mt_base.specs.Counts.{HasCause};
 ghost use Rattle.mt_disk.specs.CrashModel.{OnlyRead};
-ghost use Rattle.mt_log.specs.LogState.{IsThere, told};
+ghost use Rattle.mt_log.specs.LogState.{told};
 ghost use Rattle.mt_body.specs.Stored.{IsStored, bytes_of, is_stored};
 ghost use Rattle.mt_model.specs.Bodies.{OfCommand};
 ghost use Rattle.mt_types.specs.Kinds.{OnRows, kind_of};
+ghost use Rattle.mt_engine.specs.Looking.{BodyIsThere, LogIsThere, OnlyLooks};
 ghost use Rattle.mt_engine.specs.Opening.{with_digest};
 
 use md5::{Digest, Md5};
@@ -24,9 +25,7 @@ fn digest_by<D: Disk>(
     body: &Body,
     buffer: &mut [u8],
 ) -> Result<[u8; 16], DiskFault>
-    requires there { IsThere D.seen disk.old log.now }
-    requires is_open { log.now.closed ≡ false }
-    requires stored { ForSome (told (D.seen disk.old)) (λ ps. is_stored ps body.now ≡ true) }
+    requires ready { BodyIsThere D.seen disk.old log.now body.now }
     requires room { 0 < body.now.len → 0 < length buffer.old }
     ensures digest { IfOk result (λ sum. ForSome (told (D.seen disk.old)) (λ ps. sum ≡ md5 (bytes_of ps body.now))) }
     ensures read { OnlyRead D.seen D.may_leave D.moment D.left_since disk.old disk.new }
@@ -52,14 +51,9 @@ fn digest_body<D: Disk>(
     body: &Body,
     buffer: &mut Vec<u8>,
 ) -> Result<[u8; 16], ReadFault>
-    requires there { IsThere D.seen disk.old log.now }
-    requires is_open { log.now.closed ≡ false }
-    requires stored { ForSome (told (D.seen disk.old)) (λ ps. is_stored ps body.now ≡ true) }
+    requires ready { BodyIsThere D.seen disk.old log.now body.now }
     ensures digest { IfOk result (λ sum. ForSome (told (D.seen disk.old)) (λ ps. sum ≡ md5 (bytes_of ps body.now))) }
-    ensures read { OnlyRead D.seen D.may_leave D.moment D.left_since disk.old disk.new }
-    ensures stays { D.stays disk.old disk.new }
-    ensures disk { IsErrOf result ReadFault.Disk → Rose (D.faults disk.old) (D.faults disk.new) }
-    ensures faults { NeverFell (D.faults disk.old) (D.faults disk.new) }
+    ensures looks { OnlyLooks D.seen D.may_leave D.moment D.left_since D.faults D.stays disk.old disk.new (IsErrOf result ReadFault.Disk) }
 {
     buffer.clear();
     buffer.resize(body.size().min(LARGEST_PIECE as u64) as usize, 0)?;
@@ -75,17 +69,13 @@ pub(crate) fn digest_command<D: Disk>(
     command: &mut Command<Body>,
     buffer: &mut Vec<u8>,
 ) -> Result<(), ReadFault>
-    requires there { IsThere D.seen disk.old log.now }
-    requires is_open { log.now.closed ≡ false }
+    requires ready { LogIsThere D.seen disk.old log.now }
     requires kind { kind_of command.old ≡ OnRows }
     requires stored { ForSome (told (D.seen disk.old)) (λ ps. OfCommand (λ b. is_stored ps b ≡ true) command.old) }
     ensures same { OnOk result ((sum : List ℕ) × (command.new ≡ with_digest sum command.old)) }
     ensures digests { OnOk result (ForSome (told (D.seen disk.old)) (λ ps. OfCommand (IsStored ps) command.new)) }
     ensures err { OnErr result (command.new ≡ command.old) }
-    ensures read { OnlyRead D.seen D.may_leave D.moment D.left_since disk.old disk.new }
-    ensures stays { D.stays disk.old disk.new }
-    ensures disk { IsErrOf result ReadFault.Disk → Rose (D.faults disk.old) (D.faults disk.new) }
-    ensures faults { NeverFell (D.faults disk.old) (D.faults disk.new) }
+    ensures looks { OnlyLooks D.seen D.may_leave D.moment D.left_since D.faults D.stays disk.old disk.new (IsErrOf result ReadFault.Disk) }
 {
     match command {
         Command::Put { body, .. } => {

@@ -1,5 +1,5 @@
 //! The engine: a log, and the state that it stands for.
-ghost use Rattle.std.specs.Prelude.{◌≡◌, ◌≢◌, ◌⊎◌, ◌<◌, ◌≤◌, ◌+◌, [], ◌∷◌, ◌++◌, ℕ, List, true, false, is_some};
+ghost use Rattle.std.specs.Prelude.{◌≡◌, ◌≢◌, ◌⊎◌, ◌≤◌, ◌+◌, [], ◌∷◌, ◌++◌, ℕ, List, true, false};
 ghost use Rattle.std.specs.Option.{ForSome};
 ghost use Rattle.md5.specs.Md5.{Holds};
 ghost use Rattle.mt_base.specs.Counts.{NeverFell, Rose};
@@ -7,7 +7,6 @@ ghost use Rattle.mt_codec.specs.Spelling.{HasSpelling, IsWithinLimits, spelling}
 ghost use Rattle.mt_disk.specs.CrashModel.{LeavesOnly};
 ghost use Rattle.mt_log.specs.LogImage.{IsBeforeOrAfter};
 ghost use Rattle.mt_log.specs.LogState.{Stands, told};
-ghost use Rattle.mt_log.specs.RunState.{Running};
 ghost use Rattle.mt_body.specs.Storing.{Stores};
 ghost use Rattle.mt_body.specs.Stored.{IsStored, bytes_of};
 ghost use Rattle.mt_model.specs.Bodies.{OfCommand};
@@ -21,6 +20,7 @@ ghost use Rattle.mt_types.specs.declared.limits.TheConstants.{MOST_COMMANDS};
 ghost use Rattle.mt_engine.specs.Accepting.{Accepts, Decided, Ends, Reaches, StoresBody, Takes, closed};
 ghost use Rattle.mt_engine.specs.Current.{IsBetween, IsCurrent, IsWriting};
 ghost use Rattle.mt_engine.specs.History.{Bytes, HasHistory, History};
+ghost use Rattle.mt_engine.specs.Ready.{EngineStays, RunGoesOn, RunIsReady};
 
 use crate::account::{Account, has_spelling};
 use crate::publish::{RunEnd, end_log_run, publish};
@@ -118,7 +118,7 @@ impl Engine {
         requires stands { Stands D.seen D.may_leave disk.now self.now.log }
         requires version { self.now.log.closed ≡ false → self.now.log.is_old ≡ false }
         ensures place { result ≡ record { next = self.now.log.gate } }
-        ensures running { Running D.seen D.may_leave disk.now self.now.log result }
+        ensures goes_on { RunGoesOn D.seen D.may_leave disk.now self.now result }
         ensures writing { (base : State Bytes) (h : History) → IsCurrent (D.seen disk.now) self.now base h →
             ForSome (told (D.seen disk.now)) (λ ps. IsWriting (D.seen disk.now) self.now result base h ps) }
     {
@@ -134,9 +134,7 @@ impl Engine {
         source: &mut S,
         sum: &mut Md5,
     ) -> Storing
-        requires running { Running D.seen D.may_leave disk.old self.old.log run.old }
-        requires order { self.old.log.closed ≡ false → self.old.log.gate ≤ run.old.next }
-        requires is_open { self.old.log.closed ≡ false }
+        requires ready { RunIsReady D.seen D.may_leave disk.old self.old run.old }
         requires fresh { Holds sum.old [] }
         // Over any disk.
         ensures stores { Stores result (S.left source.old) (S.left source.new) sum.new (D.seen disk.old) (D.seen disk.new) self.old.log self.new.log run.old run.new }
@@ -147,15 +145,13 @@ impl Engine {
         // A crash at any moment of the call leaves the history of before.
         ensures any_moment { (base : State Bytes) (h : History) (qs : List (List ℕ)) → IsWriting (D.seen disk.old) self.old run.old base h qs →
             LeavesOnly D.moment D.left_since disk.old disk.new (HasHistory base h) }
-        ensures running { Running D.seen D.may_leave disk.new self.new.log run.new }
-        ensures order { self.new.log.closed ≡ false → self.new.log.gate ≤ run.new.next }
-        ensures told { self.new.log.closed ≡ false → is_some (D.seen disk.new) ≡ is_some (D.seen disk.old) }
+        ensures goes_on { RunGoesOn D.seen D.may_leave disk.new self.new run.new }
+        ensures keeps { EngineStays D.seen D.faults disk.old disk.new self.old self.new }
         ensures closed { result ≡ Storing.Disk → self.new.log.closed ≡ true }
         ensures still_open { result ≢ Storing.Disk → self.new ≡ self.old }
         ensures disk { result ≡ Storing.Disk → Rose (D.faults disk.old) (D.faults disk.new) }
         ensures failed { result ≡ Storing.SourceFault → Rose (S.read_faults source.old) (S.read_faults source.new) }
         ensures memory { result ≡ Storing.Memory → (disk.new ≡ disk.old) × (source.new ≡ source.old) × (sum.new ≡ sum.old) }
-        ensures faults { NeverFell (D.faults disk.old) (D.faults disk.new) }
         ensures reads { NeverFell (S.read_faults source.old) (S.read_faults source.new) }
         ensures stays { S.source_stays source.old source.new }
     {
@@ -164,18 +160,15 @@ impl Engine {
 
     /// Ends a run without a command. Its pieces stay, and the history is that of before.
     pub fn end_run<D: Disk>(&mut self, disk: &mut D, run: Run) -> RunEnd
-        requires running { Running D.seen D.may_leave disk.old self.old.log run }
-        requires order { self.old.log.closed ≡ false → self.old.log.gate ≤ run.next }
-        requires is_open { self.old.log.closed ≡ false }
+        requires ready { RunIsReady D.seen D.may_leave disk.old self.old run }
         ensures ends { Ends result self.old run self.new }
         ensures current { (base : State Bytes) (h : History) (qs : List (List ℕ)) → IsWriting (D.seen disk.old) self.old run base h qs →
             result ≡ RunEnd.Done → IsCurrent (D.seen disk.new) self.new base h }
         ensures any_moment { (base : State Bytes) (h : History) (qs : List (List ℕ)) → IsWriting (D.seen disk.old) self.old run base h qs →
             LeavesOnly D.moment D.left_since disk.old disk.new (HasHistory base h) }
         ensures stands { Stands D.seen D.may_leave disk.new self.new.log }
-        ensures told { self.new.log.closed ≡ false → is_some (D.seen disk.new) ≡ is_some (D.seen disk.old) }
+        ensures keeps { EngineStays D.seen D.faults disk.old disk.new self.old self.new }
         ensures disk { result ≡ RunEnd.Disk → Rose (D.faults disk.old) (D.faults disk.new) }
-        ensures faults { NeverFell (D.faults disk.old) (D.faults disk.new) }
     {
         end_log_run(&mut self.log, disk, run)
     }
@@ -189,8 +182,7 @@ impl Engine {
         run: Run,
         command: Command<Body>,
     ) -> Accepted
-        requires running { Running D.seen D.may_leave disk.old self.old.log run }
-        requires order { self.old.log.closed ≡ false → self.old.log.gate ≤ run.next }
+        requires ready { RunGoesOn D.seen D.may_leave disk.old self.old run }
         requires kind { kind_of command ≡ OnRows }
         requires limits { IsWithinLimits command }
         // Over any disk.
@@ -202,12 +194,11 @@ impl Engine {
         ensures any_moment { (base : State Bytes) (h : History) (qs : List (List ℕ)) → IsWriting (D.seen disk.old) self.old run base h qs → OfCommand (IsStored qs) command →
             (k : History) × Reaches result self.old run command (command_with (bytes_of qs) command) h k × LeavesOnly D.moment D.left_since disk.old disk.new (IsBetween base h k) }
         ensures stands { Stands D.seen D.may_leave disk.new self.new.log }
-        ensures told { self.new.log.closed ≡ false → is_some (D.seen disk.new) ≡ is_some (D.seen disk.old) }
+        ensures keeps { EngineStays D.seen D.faults disk.old disk.new self.old self.new }
         ensures disk { result ≡ Accepted.Disk → Rose (D.faults disk.old) (D.faults disk.new) }
         ensures closed { self.old.log.closed ≡ true → result ≡ Accepted.Closed }
         ensures unchanged { result ≡ Accepted.Closed → disk.new ≡ disk.old }
         ensures memory { result ≡ Accepted.Memory → disk.new ≡ disk.old }
-        ensures faults { NeverFell (D.faults disk.old) (D.faults disk.new) }
     {
         if self.log.is_closed() {
             return Accepted::Closed;
@@ -251,9 +242,7 @@ impl Engine {
         command: Command<Body>,
         payload: &[u8],
     ) -> Accepted
-        requires running { Running D.seen D.may_leave disk.old self.old.log run }
-        requires order { self.old.log.closed ≡ false → self.old.log.gate ≤ run.next }
-        requires is_open { self.old.log.closed ≡ false }
+        requires ready { RunIsReady D.seen D.may_leave disk.old self.old run }
         requires kind { kind_of command ≡ OnRows }
         requires spelled { HasSpelling command }
         requires payload { payload.now ≡ spelling command }
@@ -264,11 +253,10 @@ impl Engine {
         ensures any_moment { (base : State Bytes) (h : History) (qs : List (List ℕ)) → IsWriting (D.seen disk.old) self.old run base h qs → OfCommand (IsStored qs) command →
             (k : History) × Reaches result self.old run command (command_with (bytes_of qs) command) h k × LeavesOnly D.moment D.left_since disk.old disk.new (IsBetween base h k) }
         ensures stands { Stands D.seen D.may_leave disk.new self.new.log }
-        ensures told { self.new.log.closed ≡ false → is_some (D.seen disk.new) ≡ is_some (D.seen disk.old) }
+        ensures keeps { EngineStays D.seen D.faults disk.old disk.new self.old self.new }
         ensures only { (result ≡ Accepted.Added) ⊎ (result ≡ Accepted.Disk) ⊎ (result ≡ Accepted.Memory) }
         ensures disk { result ≡ Accepted.Disk → Rose (D.faults disk.old) (D.faults disk.new) }
         ensures memory { result ≡ Accepted.Memory → disk.new ≡ disk.old }
-        ensures faults { NeverFell (D.faults disk.old) (D.faults disk.new) }
     {
         match self.account.change(alloc, command) {
             Ok(()) => {}

@@ -4,7 +4,7 @@
 //! - `account`: the state; `rows`: commands on rows, over its tree.
 //! - `open`: a log that is there; `load`: its payloads, one behind the other; `places`: where pieces stand; `digest`: of bodies.
 //! - `specs/History`: the history that payloads stand for. `specs/Current`: how an engine stands to it. `laws`: what holds of both.
-//! - `specs/Accepting`, `specs/Reading`: what the calls of an engine do. `specs/Opening`, `specs/Places`: how a log is opened.
+//! - `specs/Ready`: what the calls of an engine ask and keep. `Accepting`, `Reading`: what they do. `Opening`, `Looking`, `Places`: how a log is opened.
 #![tactic(auto)]
 
 mod account;

@@ -1,18 +1,19 @@
 //! Reading the payloads of a log that was opened, one behind the other: pieces of bodies are noted, and commands change the state.
 ghost use Rattle.std.specs.Prelude.{◌≡◌, ◌≢◌, ◌<◌, ◌≤◌, ◌+◌, ℕ, List, true, false, None, length, Err, IfOk, OnOk, IsErrOf, IsTrue, ◌↔◌};
 ghost use Rattle.std.specs.Option.{ForSome};
-ghost use Rattle.mt_base.specs.Counts.{HasCause, NeverFell, Rose};
+ghost use Rattle.mt_base.specs.Counts.{HasCause};
 ghost use Rattle.mt_codec.specs.Pieces.{is_piece};
 ghost use Rattle.mt_codec.specs.Spelling.{HasSpelling, Spells, spelling};
 ghost use Rattle.mt_disk.specs.CrashModel.{OnlyRead};
-ghost use Rattle.mt_log.specs.LogState.{IsThere, next_place, told};
-ghost use Rattle.mt_log.specs.Places.{IsPlace, payload_at};
+ghost use Rattle.mt_log.specs.LogState.{next_place, told};
+ghost use Rattle.mt_log.specs.Places.{payload_at};
 ghost use Rattle.mt_body.specs.Stored.{is_stored};
 ghost use Rattle.mt_model.specs.Bodies.{OfCommand};
 ghost use Rattle.mt_types.specs.Kinds.{OnRows, kind_of};
 ghost use Rattle.mt_types.specs.declared.command.Command.{Command};
 ghost use Rattle.mt_types.specs.declared.body.Body.{Body};
 ghost use Rattle.mt_types.specs.declared.limits.TheConstants.{MOST_COMMANDS};
+ghost use Rattle.mt_engine.specs.Looking.{LogIsThere, OnlyLooks, OnlyReads, RecordIsThere};
 ghost use Rattle.mt_engine.specs.Opening.{IsLoaded, IsLoading, MayStand, NamesForeign};
 ghost use Rattle.mt_engine.specs.Places.{ArePlaces};
 ghost use Rattle.mt_engine.specs.declared.opening.Unreadable.{Unreadable};
@@ -45,9 +46,7 @@ struct Head {
 
 // Reads the length of the payload at a place, and its first byte where it may be a piece.
 fn head_at<D: Disk>(log: &Log, disk: &mut D, place: u64) -> Result<Head, DiskFault>
-    requires there { IsThere D.seen disk.old log.now }
-    requires is_open { log.now.closed ≡ false }
-    requires place { ForSome (told (D.seen disk.old)) (λ ps. IsPlace place ps) }
+    requires ready { RecordIsThere D.seen disk.old log.now place }
     ensures head { IfOk result (λ h. ForSome (told (D.seen disk.old)) (λ ps. (h.len ≡ length (payload_at place ps)) × (h.is_piece ≡ is_piece (payload_at place ps)))) }
     ensures size { IfOk result (λ h. h.is_piece ≡ true → (1 < h.len) × (h.len ≤ 65537)) }
     ensures read { OnlyRead D.seen D.may_leave D.moment D.left_since disk.old disk.new }
@@ -79,16 +78,11 @@ fn command_at<D: Disk>(
     place: u64,
     buffer: &mut Vec<u8>,
 ) -> Result<Command<Body>, OpenEnd>
-    requires there { IsThere D.seen disk.old log.now }
-    requires is_open { log.now.closed ≡ false }
-    requires place { ForSome (told (D.seen disk.old)) (λ ps. IsPlace place ps) }
+    requires ready { RecordIsThere D.seen disk.old log.now place }
     ensures found { IfOk result (λ c. (p : List ℕ) × Spells p c × ForSome (told (D.seen disk.old)) (λ ps. payload_at place ps ≡ p)) }
     ensures none { (why : Unreadable) → result ≡ Err (OpenEnd.Unreadable why) →
         (why ≡ Foreign place) × ForSome (told (D.seen disk.old)) (λ ps. (c : Command Body) → HasSpelling c → payload_at place ps ≢ spelling c) }
-    ensures read { OnlyRead D.seen D.may_leave D.moment D.left_since disk.old disk.new }
-    ensures stays { D.stays disk.old disk.new }
-    ensures disk { IsErrOf result OpenEnd.Disk → Rose (D.faults disk.old) (D.faults disk.new) }
-    ensures faults { NeverFell (D.faults disk.old) (D.faults disk.new) }
+    ensures looks { OnlyLooks D.seen D.may_leave D.moment D.left_since D.faults D.stays disk.old disk.new (IsErrOf result OpenEnd.Disk) }
 {
     match log.read(disk, place, buffer) {
         Ok(()) => match decode(alloc, buffer.as_slice()) {
@@ -156,18 +150,13 @@ fn load_command<D: Disk>(
     places: &Places,
     buffer: &mut Vec<u8>,
 ) -> Result<(), OpenEnd>
-    requires there { IsThere D.seen disk.old log.now }
-    requires is_open { log.now.closed ≡ false }
-    requires place { ForSome (told (D.seen disk.old)) (λ ps. IsPlace place ps) }
+    requires ready { RecordIsThere D.seen disk.old log.now place }
     requires no_piece { ForSome (told (D.seen disk.old)) (λ ps. is_piece (payload_at place ps) ≡ false) }
     requires loading { ForSome (told (D.seen disk.old)) (λ ps. IsLoading ps place account.old places.now.earlier.items places.now.last) }
     ensures loading { OnOk result (ForSome (told (D.seen disk.old)) (λ ps.
         IsLoading ps (next_place place (length (payload_at place ps))) account.new places.now.earlier.items places.now.last)) }
     ensures foreign { (why : Unreadable) → result ≡ Err (OpenEnd.Unreadable why) → ForSome (told (D.seen disk.old)) (λ ps. NamesForeign ps why) }
-    ensures read { OnlyRead D.seen D.may_leave D.moment D.left_since disk.old disk.new }
-    ensures stays { D.stays disk.old disk.new }
-    ensures disk { IsErrOf result OpenEnd.Disk → Rose (D.faults disk.old) (D.faults disk.new) }
-    ensures faults { NeverFell (D.faults disk.old) (D.faults disk.new) }
+    ensures looks { OnlyLooks D.seen D.may_leave D.moment D.left_since D.faults D.stays disk.old disk.new (IsErrOf result OpenEnd.Disk) }
 {
     let mut command = match command_at(alloc, log, disk, place, buffer) {
         Ok(command) => command,
@@ -193,17 +182,12 @@ fn load_one<D: Disk>(
     places: &mut Places,
     buffer: &mut Vec<u8>,
 ) -> Result<u64, OpenEnd>
-    requires there { IsThere D.seen disk.old log.now }
-    requires is_open { log.now.closed ≡ false }
-    requires place { ForSome (told (D.seen disk.old)) (λ ps. IsPlace place ps) }
+    requires ready { RecordIsThere D.seen disk.old log.now place }
     requires loading { ForSome (told (D.seen disk.old)) (λ ps. IsLoading ps place account.old places.old.earlier.items places.old.last) }
     ensures loading { IfOk result (λ next. ForSome (told (D.seen disk.old)) (λ ps. IsLoading ps next account.new places.new.earlier.items places.new.last)) }
     ensures next { IfOk result (λ next. (place < next) × (next ≤ log.now.gate)) }
     ensures foreign { (why : Unreadable) → result ≡ Err (OpenEnd.Unreadable why) → ForSome (told (D.seen disk.old)) (λ ps. NamesForeign ps why) }
-    ensures read { OnlyRead D.seen D.may_leave D.moment D.left_since disk.old disk.new }
-    ensures stays { D.stays disk.old disk.new }
-    ensures disk { IsErrOf result OpenEnd.Disk → Rose (D.faults disk.old) (D.faults disk.new) }
-    ensures faults { NeverFell (D.faults disk.old) (D.faults disk.new) }
+    ensures looks { OnlyLooks D.seen D.may_leave D.moment D.left_since D.faults D.stays disk.old disk.new (IsErrOf result OpenEnd.Disk) }
 {
     let head = head_at(log, disk, place)?;
     // Only a disk that tells nothing may give a longer record than the one that was read when the log was opened.
@@ -221,14 +205,10 @@ fn load_one<D: Disk>(
 
 // Reads the payloads of a log one behind the other, and gives the state that they lead to.
 fn load_payloads<D: Disk>(alloc: Global, log: &Log, disk: &mut D) -> Result<Account, OpenEnd>
-    requires there { IsThere D.seen disk.old log.now }
-    requires is_open { log.now.closed ≡ false }
+    requires ready { LogIsThere D.seen disk.old log.now }
     ensures loaded { IfOk result (λ account. ForSome (told (D.seen disk.old)) (λ ps. IsLoaded ps account)) }
     ensures foreign { (why : Unreadable) → result ≡ Err (OpenEnd.Unreadable why) → ForSome (told (D.seen disk.old)) (λ ps. NamesForeign ps why) }
-    ensures read { OnlyRead D.seen D.may_leave D.moment D.left_since disk.old disk.new }
-    ensures stays { D.stays disk.old disk.new }
-    ensures disk { IsErrOf result OpenEnd.Disk → Rose (D.faults disk.old) (D.faults disk.new) }
-    ensures faults { NeverFell (D.faults disk.old) (D.faults disk.new) }
+    ensures looks { OnlyLooks D.seen D.may_leave D.moment D.left_since D.faults D.stays disk.old disk.new (IsErrOf result OpenEnd.Disk) }
 {
     let gate = log.len() - 1;
     let mut account = Account::new(alloc)?;
@@ -255,13 +235,10 @@ fn load_payloads<D: Disk>(alloc: Global, log: &Log, disk: &mut D) -> Result<Acco
 /// Reads the payloads of a log that was opened, and gives the state that they lead to. It keeps 16 bytes a body and a window of 16,384
 /// bytes of the log beside the state.
 pub(crate) fn load<D: Disk>(alloc: Global, log: &Log, disk: &mut D) -> Result<Account, OpenEnd>
-    requires there { IsThere D.seen disk.old log.now }
-    requires is_open { log.now.closed ≡ false }
+    requires ready { LogIsThere D.seen disk.old log.now }
     ensures loaded { IfOk result (λ account. ForSome (told (D.seen disk.old)) (λ ps. IsLoaded ps account)) }
     ensures foreign { (why : Unreadable) → result ≡ Err (OpenEnd.Unreadable why) → ForSome (told (D.seen disk.old)) (λ ps. NamesForeign ps why) }
-    ensures read { OnlyRead D.seen D.may_leave D.moment D.left_since disk.old disk.new }
-    ensures disk { IsErrOf result OpenEnd.Disk → Rose (D.faults disk.old) (D.faults disk.new) }
-    ensures faults { NeverFell (D.faults disk.old) (D.faults disk.new) }
+    ensures reads { OnlyReads D.seen D.may_leave D.moment D.left_since D.faults disk.old disk.new (IsErrOf result OpenEnd.Disk) }
 {
     let mut window = zeros(alloc, WINDOW)?;
     let mut ahead = ReadAhead::new(disk, log.file(), log.len(), window.as_mut_slice());

@@ -11,42 +11,12 @@ ghost use Rattle.mt_engine.specs.History.{Bytes, HasHistory, History};
 ghost use Rattle.mt_engine.specs.Opening.{IsReadable, IsRefused, KeepsLogs};
 ghost use Rattle.mt_engine.specs.declared.opening.Unreadable.{Unreadable};
 
-use crate::account::Account;
 use crate::engine::Engine;
 use crate::load::load;
 use crate::opening::{OpenEnd, refused};
 use mt_disk::Disk;
 use mt_log::Log;
 use std::alloc::Global;
-
-// The log of a disk, and the state that it stands for.
-fn open_log<D: Disk>(alloc: Global, disk: &mut D, limit: u64) -> Result<(Log, Account), OpenEnd>
-    requires rest { IsAtRest D.seen D.may_leave disk.old }
-    requires fit { ForSome (D.seen disk.old) Fit }
-    ensures current { ForSome (D.seen disk.old) (λ files. (base : State Bytes) (h : History) → HasHistory base h files →
-        IfOk result (λ e. IsCurrent (D.seen disk.new) (record { log = e.0; state = e.1 }) base h)) }
-    ensures limit { IfOk result (λ e. e.0.limit ≡ limit) }
-    ensures live { IfOk result (λ e. e.0.closed ≡ false) }
-    ensures version { IfOk result (λ e. e.0.is_old ≡ false) }
-    ensures stands { IfOk result (λ e. Stands D.seen D.may_leave disk.new e.0) }
-    // A disk that told what it held tells it still.
-    ensures tells { OnOk result (is_some (D.seen disk.new) ≡ is_some (D.seen disk.old)) }
-    // Only what can be read is opened, and what is refused is refused for its first fault, and stays.
-    ensures opened { OnOk result (ForSome (D.seen disk.old) IsReadable) }
-    ensures refused { (why : Unreadable) → result ≡ Err (OpenEnd.Unreadable why) →
-        ForSome (D.seen disk.old) (λ files. IsRefused files why × KeepsLogs D.seen D.may_leave disk.new files) }
-    ensures any_moment { ForSome (D.seen disk.old) (λ files. LeavesOnly D.moment D.left_since disk.old disk.new (SameLog files)) }
-    ensures disk { IsErrOf result OpenEnd.Disk → Rose (D.faults disk.old) (D.faults disk.new) }
-    ensures faults { NeverFell (D.faults disk.old) (D.faults disk.new) }
-{
-    match Log::open(alloc, disk, limit) {
-        Ok(log) => match load(alloc, &log, disk) {
-            Ok(account) => Ok((log, account)),
-            Err(end) => Err(end),
-        },
-        Err(error) => Err(refused(error)),
-    }
-}
 
 impl Engine {
     /// Opens the log of a disk, which may get `limit` bytes long, and the state that it stands for. A log is made where there is none,
@@ -71,9 +41,12 @@ impl Engine {
         ensures disk { IsErrOf result OpenEnd.Disk → Rose (D.faults disk.old) (D.faults disk.new) }
         ensures faults { NeverFell (D.faults disk.old) (D.faults disk.new) }
     {
-        match open_log(alloc, disk, limit) {
-            Ok((log, account)) => Ok(Engine { log, account }),
-            Err(end) => Err(end),
+        match Log::open(alloc, disk, limit) {
+            Ok(log) => match load(alloc, &log, disk) {
+                Ok(account) => Ok(Engine { log, account }),
+                Err(end) => Err(end),
+            },
+            Err(error) => Err(refused(error)),
         }
     }
 }

@@ -38,10 +38,7 @@ pub(crate) fn end_log_run<D: Disk>(log: &mut Log, disk: &mut D, run: Run) -> Run
     match log.end_run(disk, run) {
         Ok(()) => RunEnd::Done,
         Err(AppendError::Disk) => RunEnd::Disk,
-        // never, since the log is open
-        Err(AppendError::Closed) => RunEnd::Disk,
-        // never
-        Err(AppendError::Full) => RunEnd::Disk,
+        Err(AppendError::Closed | AppendError::Full) => unreachable!(),
     }
 }
 
@@ -66,9 +63,6 @@ pub(crate) fn publish<D: Disk>(log: &mut Log, disk: &mut D, mut run: Run, payloa
     match log.add_to_run(disk, &mut run, payload) {
         Ok(_) => end_log_run(log, disk, run),
         Err(AppendError::Disk) => RunEnd::Disk,
-        // never, since the log is open
-        Err(AppendError::Closed) => RunEnd::Disk,
-        // never, since it has room
-        Err(AppendError::Full) => RunEnd::Disk,
+        Err(AppendError::Closed | AppendError::Full) => unreachable!(),
     }
 }

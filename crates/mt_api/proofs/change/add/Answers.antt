@@ -2,6 +2,7 @@ use Rattle.std.proofs.Common.{◌++◌, ◌∷◌, [], ℕ, ◌+◌, refl, sym, 
 use Rattle.mt_answer.specs.Answer.{command_of, reply_to}
 use Rattle.mt_answer.specs.Judging.{len_of, md5_of}
 use Rattle.mt_body.specs.Stored.{bytes_of}
+use Rattle.mt_engine.specs.Current.{EngineState}
 use Rattle.mt_engine.specs.declared.engine.Accepted.TheVariants as accepted
 use Rattle.mt_model.specs.CommandStep.{replay}
 use Rattle.mt_model.specs.Rows.{Rows}
@@ -14,7 +15,7 @@ use Rattle.mt_reply.specs.Replies.{error_reply}
 use Rattle.mt_api.specs.Steps.{IsHeld, Replies}
 use Rattle.mt_api.specs.declared.answered.Answered.TheVariants as answered
 use Rattle.mt_api.proofs.Adds.{brings_stored, gives_added, held_reply, leaves_added, reached_none, reaches_added, settles_full}
-use Rattle.mt_api.proofs.Ends.{keeps_ended, settled_ended, settled_replied, leaves_at, leaves_same, memory_settles}
+use Rattle.mt_api.proofs.Ends.{ended_keeps, held_ended, held_replied, leaves_at, leaves_same, memory_not_disk, memory_settles, not_disk, replied_not_disk, settled_ended, settled_replied}
 use Rattle.mt_api.proofs.change.add.Goals as goal
 
 -- want of memory for the reply
@@ -26,21 +27,6 @@ returns-in-Err-clause-settles g c base h qs asked bytes e ready =
       memory_settles (answer_at asked c.args.engine.now (replay base h) bytes) (used c.args.engine.now) base h (d.seen c.end_with.new.disk) c.end_with.result c.args.engine.now c.args.run c.end_with.new.engine w.ends (w.current base h qs ready.writing),
       leaves_same d.moment d.left_since c.args.disk.now c.end_with.new.disk base h (w.any_moment base h qs ready.writing),
     )
-
-pub returns-in-Err-clause-keeps : goal.returns-in-Err-clause-keeps
-returns-in-Err-clause-keeps g c = keeps_ended c.end_with.result answered.Memory c.args.engine.now c.args.run c.end_with.new.engine c.requires.is_open c.end_with.ensures.ends
-
-pub returns-in-None-clause-settles : goal.returns-in-None-clause-settles
-returns-in-None-clause-settles g c base h qs asked bytes e ready =
-    let d = g.D.Disk in
-    let w = c.end_with-in-None.ensures in (
-      h,
-      memory_settles (answer_at asked c.args.engine.now (replay base h) bytes) (used c.args.engine.now) base h (d.seen c.end_with-in-None.new.disk) c.end_with-in-None.result c.args.engine.now c.args.run c.end_with-in-None.new.engine w.ends (w.current base h qs ready.writing),
-      leaves_same d.moment d.left_since c.args.disk.now c.end_with-in-None.new.disk base h (w.any_moment base h qs ready.writing),
-    )
-
-pub returns-in-None-clause-keeps : goal.returns-in-None-clause-keeps
-returns-in-None-clause-keeps g c = keeps_ended c.end_with-in-None.result answered.Memory c.args.engine.now c.args.run c.end_with-in-None.new.engine c.requires.is_open c.end_with-in-None.ensures.ends
 
 pub returns-in-Added-clause-settles : goal.returns-in-Added-clause-settles
 returns-in-Added-clause-settles g c base h qs asked bytes e ready =
@@ -56,14 +42,6 @@ returns-in-Added-clause-settles g c base h qs asked bytes e ready =
       gives_added (d.seen c.args.disk.now) engine c.args.run base h qs asked call c.args.body bytes e ready command is c.in-Ok.reply (d.seen c.accept.new.disk) c.accept.new.self says c.in-Added.ensures.decided (c.in-Added.ensures.accepts base h qs ready.writing brought),
       leaves_added (d.seen c.args.disk.now) engine c.args.run base h qs asked call c.args.body bytes e ready command is d.moment d.left_since c.args.disk.now c.accept.new.disk accepted.Added reach.0 reach.1 reach.2,
     )
-
-pub returns-in-Added-clause-held : goal.returns-in-Added-clause-held
-returns-in-Added-clause-held g c =
-    let engine = c.args.engine.now in
-    let call = c.args.call in
-    let is = ap (λ (rows : Rows Body). command_of rows call.request.doing c.args.body call.stamp.moment) (sym c.tree.ensures.rows) ∙ sym c.command_of.ensures.command ∙ c.in-Some.is in
-    subst (λ (r : Reply Body). IsHeld r.body) (sym c.in-Ok.ensures)
-    (held_reply (record call.stamp { position = c.position-position.result + 1 }) engine.state.count engine.state.rows call.conditions call.request.doing c.args.body.md5 c.args.body call.stamp.moment c.in-Some.command is)
 
 pub returns-in-Full-clause-settles : goal.returns-in-Full-clause-settles
 returns-in-Full-clause-settles g c base h qs asked bytes e ready =
@@ -116,10 +94,56 @@ returns-in-Refused-clause-settles g c base h qs asked bytes e ready =
     (h, (refl, λ is_open. c.in-Refused.ensures.accepts base h qs ready.writing brought), leaves_at d.moment d.left_since c.args.disk.now c.accept.new.disk base h reach.0 h same reach.2)
 
 pub returns-in-Err-clause-settled : goal.returns-in-Err-clause-settled
-returns-in-Err-clause-settled g c = settled_ended c.end_with.result answered.Memory c.args.engine.now c.args.run c.end_with.new.engine c.end_with.ensures.ends tt
+returns-in-Err-clause-settled g c =
+    let d = g.D.Disk in
+    let end = c.end_with in
+    record {
+      keeps = ended_keeps d.seen d.may_leave d.faults c.args.disk.now end.new.disk end.result answered.Memory c.args.engine.now c.args.run end.new.engine c.requires.ready.over.is_open end.ensures.ends end.ensures.keeps end.ensures.stands end.ensures.disk;
+      is_settled = settled_ended end.result answered.Memory c.args.engine.now c.args.run end.new.engine end.ensures.ends tt;
+      held = held_ended end.result answered.Memory c.args.engine.now c.args.run end.new.engine end.ensures.ends tt;
+    }
 
-pub returns-in-None-clause-settled : goal.returns-in-None-clause-settled
-returns-in-None-clause-settled g c = settled_ended c.end_with-in-None.result answered.Memory c.args.engine.now c.args.run c.end_with-in-None.new.engine c.end_with-in-None.ensures.ends tt
+pub returns-in-Added-clause-settled : goal.returns-in-Added-clause-settled
+returns-in-Added-clause-settled g c =
+    let engine = c.args.engine.now in
+    let call = c.args.call in
+    let is = ap (λ (rows : Rows Body). command_of rows call.request.doing c.args.body call.stamp.moment) (sym c.tree.ensures.rows) ∙ sym c.command_of.ensures.command ∙ c.in-Some.is in
+    record {
+      keeps = record {
+        stays = c.in-Added.ensures.keeps;
+        stands = c.in-Added.ensures.stands;
+        live = λ d m. ap (λ (x : EngineState). x.log.closed) c.in-Added.ensures.decided.1 ∙ c.requires.ready.over.is_open;
+        disk = λ x. absurd (replied_not_disk c.in-Ok.reply x);
+      };
+      is_settled = tt;
+      held = subst (λ (r : Reply Body). IsHeld r.body) (sym c.in-Ok.ensures)
+          (held_reply (record call.stamp { position = c.position-position.result + 1 }) engine.state.count engine.state.rows call.conditions call.request.doing c.args.body.md5 c.args.body call.stamp.moment c.in-Some.command is);
+    }
 
 pub returns-in-Full-clause-settled : goal.returns-in-Full-clause-settled
-returns-in-Full-clause-settled g c = settled_replied c.refuse.result (error_reply c.args.call.stamp c.plain.result) c.refuse.ensures
+returns-in-Full-clause-settled g c = record {
+  keeps = record { stays = c.in-Full.ensures.keeps; stands = c.in-Full.ensures.stands; live = λ d m. ap (λ (x : EngineState). x.log.closed) c.in-Full.ensures.decided.2 ∙ c.requires.ready.over.is_open; disk = λ x. absurd (not_disk c.refuse.result (error_reply c.args.call.stamp c.plain.result) c.refuse.ensures x) };
+  is_settled = settled_replied c.refuse.result (error_reply c.args.call.stamp c.plain.result) c.refuse.ensures;
+  held = held_replied c.refuse.result (error_reply c.args.call.stamp c.plain.result) tt c.refuse.ensures;
+}
+
+pub returns-in-Disk-clause-settled : goal.returns-in-Disk-clause-settled
+returns-in-Disk-clause-settled g c = record {
+  keeps = record { stays = c.in-Disk.ensures.keeps; stands = c.in-Disk.ensures.stands; live = λ d m. absurd (d refl); disk = λ x. c.in-Disk.ensures.disk refl };
+  is_settled = tt;
+  held = tt;
+}
+
+pub returns-in-Memory-clause-settled : goal.returns-in-Memory-clause-settled
+returns-in-Memory-clause-settled g c = record {
+  keeps = record { stays = c.in-Memory.ensures.keeps; stands = c.in-Memory.ensures.stands; live = λ d m. absurd (m refl); disk = λ x. absurd (memory_not_disk x) };
+  is_settled = tt;
+  held = tt;
+}
+
+pub returns-in-Refused-clause-settled : goal.returns-in-Refused-clause-settled
+returns-in-Refused-clause-settled g c = record {
+  keeps = record { stays = c.in-Refused.ensures.keeps; stands = c.in-Refused.ensures.stands; live = λ d m. absurd (m refl); disk = λ x. absurd (memory_not_disk x) };
+  is_settled = tt;
+  held = tt;
+}

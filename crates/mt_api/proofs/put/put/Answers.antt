@@ -8,11 +8,10 @@ use Rattle.mt_log.specs.LogImage.{payloads_of}
 use Rattle.mt_log.specs.LogState.{Stands}
 use Rattle.mt_log.specs.RunState.{RunState}
 use Rattle.mt_api.specs.Answered.{used}
-use Rattle.mt_api.specs.Steps.{Goes, HasNoRoom, IsWhole, Keeps, StoresBody, call_of}
+use Rattle.mt_api.specs.Steps.{Goes, HasNoRoom, IsWhole, StoresBody, call_of}
 use Rattle.mt_api.specs.declared.answered.Answered.TheVariants as answered
-use Rattle.mt_api.proofs.Adds.{keeps_closed}
-use Rattle.mt_api.proofs.Ends.{keeps_ended, keeps_same, leaves_same, leaves_then}
-use Rattle.mt_api.proofs.Lefts.{all_ended, front_of}
+use Rattle.mt_api.proofs.Ends.{behind_keeps, disk_not_source, ended_keeps, held_ended, leaves_same, leaves_then, memory_not_disk, memory_not_source}
+use Rattle.mt_api.proofs.Lefts.{all_ended, front_of, read_further}
 use Rattle.mt_api.proofs.Puts.{ended_goes, goes_on, none_taken, nothing_fits, part_next, stays_left}
 use Rattle.mt_api.proofs.put.put.Goals as goal
 
@@ -25,25 +24,13 @@ returns-then-used-limit-clause-goes g c base h asked i e =
     let over : engine.log.limit < used engine + pieces_size 0 = omega (arith, c.if-used-limit.true, c.used.ensures, c.limit.ensures) in
     let at : used engine ≡ used engine + pieces_that_fit engine.log.limit (used engine) 0 = omega (arith, nothing_fits engine.log.limit (used engine)) in
     let none : HasNoRoom (d.seen c.args.disk.now) engine c.begin_run-run.result base h (payloads_of i.is_read.files) [] = record { writing = w; next = ap (λ (r : RunState). r.next + 1) c.begin_run-run.ensures.place ∙ at; full = over } in
-    c.lacking.ensures.goes base h (payloads_of i.is_read.files) asked left [] e none c.new-sum.ensures (none_taken left)
+    c.refuse_for_room.ensures.goes base h (payloads_of i.is_read.files) asked left [] e none c.new-sum.ensures (none_taken left)
 
-pub stored-requires-clause-is_open : goal.stored-requires-clause-is_open
-stored-requires-clause-is_open g c = ap (λ (x : EngineState). x.log.closed) (c.in-Stored.ensures.still_open (λ x. cc)) ∙ c.requires.is_open
+pub finish_body-requires-clause-stores : goal.finish_body-requires-clause-stores
+finish_body-requires-clause-stores g c = subst (λ (x : EngineState). StoresBody x c.args.call) (sym (c.in-Stored.ensures.still_open (λ x. cc))) c.requires.stores
 
-pub stored-requires-clause-placed : goal.stored-requires-clause-placed
-stored-requires-clause-placed g c = c.in-Stored.ensures.stores.0.placed
-
-pub stored-requires-clause-stores : goal.stored-requires-clause-stores
-stored-requires-clause-stores g c = subst (λ (x : EngineState). StoresBody x c.args.call) (sym (c.in-Stored.ensures.still_open (λ x. cc))) c.requires.stores
-
-pub lacking-requires-in-Full-clause-is_open : goal.lacking-requires-in-Full-clause-is_open
-lacking-requires-in-Full-clause-is_open g c = ap (λ (x : EngineState). x.log.closed) (c.in-Full.ensures.still_open (λ x. cc)) ∙ c.requires.is_open
-
-pub lacking-requires-in-Full-clause-stores : goal.lacking-requires-in-Full-clause-stores
-lacking-requires-in-Full-clause-stores g c = subst (λ (x : EngineState). StoresBody x c.args.call) (sym (c.in-Full.ensures.still_open (λ x. cc))) c.requires.stores
-
-pub end_with-requires-clause-is_open : goal.end_with-requires-clause-is_open
-end_with-requires-clause-is_open g c = ap (λ (x : EngineState). x.log.closed) (c.in-SourceFault.ensures.still_open (λ x. cc)) ∙ c.requires.is_open
+pub refuse_for_room-requires-in-Full-clause-stores : goal.refuse_for_room-requires-in-Full-clause-stores
+refuse_for_room-requires-in-Full-clause-stores g c = subst (λ (x : EngineState). StoresBody x c.args.call) (sym (c.in-Full.ensures.still_open (λ x. cc))) c.requires.stores
 
 pub returns-in-Stored-clause-goes : goal.returns-in-Stored-clause-goes
 returns-in-Stored-clause-goes g c base h asked i e =
@@ -64,16 +51,13 @@ returns-in-Stored-clause-goes g c base h asked i e =
       next = omega (arith, s.next, fresh, ap used same);
       fits = s.fits (omega (arith, fresh, under, ap (λ (x : EngineState). x.log.limit) same));
     } in
-    let r = c.stored.ensures.goes base h (payloads_of i.is_read.files ++ s.pieces) asked left s.bytes (e ∙ ap (call_of asked) (sym same)) whole (all_ended left left' s.bytes s.took s.ended) in
-    let goes = subst (λ (x : EngineState). Goes c.stored.result asked x base h left c.stored.new.stream.framer.stage (d.seen c.stored.new.disk) c.stored.new.engine r.0) same r.1 in (
+    let r = c.finish_body.ensures.goes base h (payloads_of i.is_read.files ++ s.pieces) asked left s.bytes (e ∙ ap (call_of asked) (sym same)) whole (all_ended left left' s.bytes s.took s.ended) in
+    let goes = subst (λ (x : EngineState). Goes c.finish_body.result asked x base h left c.finish_body.new.stream.framer.stage (d.seen c.finish_body.new.disk) c.finish_body.new.engine r.0) same r.1 in (
       r.0,
       goes,
-      leaves_then d.moment d.left_since c.args.disk.now c.store_body.new.disk c.stored.new.disk base h r.0
-          (goes_on c.stored.result asked engine base h left c.stored.new.stream.framer.stage (d.seen c.stored.new.disk) c.stored.new.engine r.0 goes) (c.in-Stored.ensures.any_moment base h (payloads_of i.is_read.files) w) r.2,
+      leaves_then d.moment d.left_since c.args.disk.now c.store_body.new.disk c.finish_body.new.disk base h r.0
+          (goes_on c.finish_body.result asked engine base h left c.finish_body.new.stream.framer.stage (d.seen c.finish_body.new.disk) c.finish_body.new.engine r.0 goes) (c.in-Stored.ensures.any_moment base h (payloads_of i.is_read.files) w) r.2,
     )
-
-pub returns-in-Stored-clause-keeps : goal.returns-in-Stored-clause-keeps
-returns-in-Stored-clause-keeps g c = subst (λ (x : EngineState). Keeps c.stored.result x c.stored.new.engine) (c.in-Stored.ensures.still_open (λ x. cc)) c.stored.ensures.keeps
 
 pub returns-in-Full-clause-goes : goal.returns-in-Full-clause-goes
 returns-in-Full-clause-goes g c base h asked i e =
@@ -90,16 +74,13 @@ returns-in-Full-clause-goes g c base h asked i e =
       next = part_next c.store_body.new.self.log.limit (used c.store_body.new.self) run.next c.store_body.new.run.next (length p.0.bytes) p.0.next fresh;
       full = omega (arith, p.1, fresh);
     } in
-    let r = c.lacking-in-Full.ensures.goes base h (payloads_of i.is_read.files ++ p.0.pieces) asked left p.0.bytes (e ∙ ap (call_of asked) (sym same)) none p.0.digested p.0.took in
-    let goes = subst (λ (x : EngineState). Goes c.lacking-in-Full.result asked x base h left c.lacking-in-Full.new.stream.framer.stage (d.seen c.lacking-in-Full.new.disk) c.lacking-in-Full.new.engine r.0) same r.1 in (
+    let r = c.refuse_for_room-in-Full.ensures.goes base h (payloads_of i.is_read.files ++ p.0.pieces) asked left p.0.bytes (e ∙ ap (call_of asked) (sym same)) none p.0.digested p.0.took in
+    let goes = subst (λ (x : EngineState). Goes c.refuse_for_room-in-Full.result asked x base h left c.refuse_for_room-in-Full.new.stream.framer.stage (d.seen c.refuse_for_room-in-Full.new.disk) c.refuse_for_room-in-Full.new.engine r.0) same r.1 in (
       r.0,
       goes,
-      leaves_then d.moment d.left_since c.args.disk.now c.store_body.new.disk c.lacking-in-Full.new.disk base h r.0
-          (goes_on c.lacking-in-Full.result asked engine base h left c.lacking-in-Full.new.stream.framer.stage (d.seen c.lacking-in-Full.new.disk) c.lacking-in-Full.new.engine r.0 goes) (c.in-Full.ensures.any_moment base h (payloads_of i.is_read.files) w) r.2,
+      leaves_then d.moment d.left_since c.args.disk.now c.store_body.new.disk c.refuse_for_room-in-Full.new.disk base h r.0
+          (goes_on c.refuse_for_room-in-Full.result asked engine base h left c.refuse_for_room-in-Full.new.stream.framer.stage (d.seen c.refuse_for_room-in-Full.new.disk) c.refuse_for_room-in-Full.new.engine r.0 goes) (c.in-Full.ensures.any_moment base h (payloads_of i.is_read.files) w) r.2,
     )
-
-pub returns-in-Full-clause-keeps : goal.returns-in-Full-clause-keeps
-returns-in-Full-clause-keeps g c = subst (λ (x : EngineState). Keeps c.lacking-in-Full.result x c.lacking-in-Full.new.engine) (c.in-Full.ensures.still_open (λ x. cc)) c.lacking-in-Full.ensures.keeps
 
 pub returns-in-SourceFault-clause-goes : goal.returns-in-SourceFault-clause-goes
 returns-in-SourceFault-clause-goes g c base h asked i e =
@@ -123,23 +104,11 @@ returns-in-SourceFault-clause-goes g c base h asked i e =
           (leaves_same d.moment d.left_since c.store_body.new.disk end.new.disk base h (end.ensures.any_moment base h (payloads_of i.is_read.files ++ p.pieces) p.writing)),
     )
 
-pub returns-in-SourceFault-clause-keeps : goal.returns-in-SourceFault-clause-keeps
-returns-in-SourceFault-clause-keeps g c =
-    let same = c.in-SourceFault.ensures.still_open (λ x. cc) in
-    subst (λ (x : EngineState). Keeps c.end_with.result x c.end_with.new.engine) same
-    (keeps_ended c.end_with.result answered.SourceFault c.store_body.new.self c.store_body.new.run c.end_with.new.engine (ap (λ (x : EngineState). x.log.closed) same ∙ c.requires.is_open) c.end_with.ensures.ends)
-
 pub returns-in-Disk-clause-goes : goal.returns-in-Disk-clause-goes
 returns-in-Disk-clause-goes g c base h asked i e =
     let d = g.D.Disk in
     let w = c.begin_run-run.ensures.writing base h i (payloads_of i.is_read.files) (told_now (d.seen c.args.disk.now) c.args.engine.now base h i) in
     (h, (c.in-Disk.ensures.closed refl, inl refl), leaves_same d.moment d.left_since c.args.disk.now c.store_body.new.disk base h (c.in-Disk.ensures.any_moment base h (payloads_of i.is_read.files) w))
-
-pub returns-in-Disk-clause-keeps : goal.returns-in-Disk-clause-keeps
-returns-in-Disk-clause-keeps g c = keeps_closed answered.Disk c.args.engine.now c.store_body.new.self (c.in-Disk.ensures.closed refl) (λ x y. x refl)
-
-pub returns-in-Disk-clause-stands : goal.returns-in-Disk-clause-stands
-returns-in-Disk-clause-stands g c is_open = absurd (true≢false (sym (c.in-Disk.ensures.closed refl) ∙ is_open))
 
 pub returns-in-Memory-clause-goes : goal.returns-in-Memory-clause-goes
 returns-in-Memory-clause-goes g c base h asked i e =
@@ -147,11 +116,103 @@ returns-in-Memory-clause-goes g c base h asked i e =
     let w = c.begin_run-run.ensures.writing base h i (payloads_of i.is_read.files) (told_now (d.seen c.args.disk.now) c.args.engine.now base h i) in
     (h, (refl, λ is_open. (c.in-Memory.ensures.body base h (payloads_of i.is_read.files) w).current), leaves_same d.moment d.left_since c.args.disk.now c.store_body.new.disk base h (c.in-Memory.ensures.any_moment base h (payloads_of i.is_read.files) w))
 
-pub returns-in-Memory-clause-keeps : goal.returns-in-Memory-clause-keeps
-returns-in-Memory-clause-keeps g c = subst (λ (x : EngineState). Keeps answered.Memory x c.store_body.new.self) (c.in-Memory.ensures.still_open (λ x. cc)) (keeps_same answered.Memory c.store_body.new.self (ap (λ (x : EngineState). x.log.closed) (c.in-Memory.ensures.still_open (λ x. cc)) ∙ c.requires.is_open))
+pub store_body-requires-clause-ready : goal.store_body-requires-clause-ready
+store_body-requires-clause-ready g c = record { running = c.begin_run-run.ensures.goes_on.running; order = c.begin_run-run.ensures.goes_on.order; is_open = c.requires.ready.over.is_open }
 
-pub returns-in-Memory-clause-stands : goal.returns-in-Memory-clause-stands
-returns-in-Memory-clause-stands g c =
+pub finish_body-requires-clause-ready : goal.finish_body-requires-clause-ready
+finish_body-requires-clause-ready g c = record {
+  over = record {
+    running = c.in-Stored.ensures.goes_on.running;
+    order = c.in-Stored.ensures.goes_on.order;
+    is_open = ap (λ (x : EngineState). x.log.closed) (c.in-Stored.ensures.still_open (λ x. cc)) ∙ c.requires.ready.over.is_open;
+  };
+  moment = c.requires.ready.moment;
+  fits = c.requires.ready.fits;
+  placed = c.in-Stored.ensures.stores.0.placed;
+}
+
+pub refuse_for_room-requires-in-Full-clause-ready : goal.refuse_for_room-requires-in-Full-clause-ready
+refuse_for_room-requires-in-Full-clause-ready g c = record {
+  running = c.in-Full.ensures.goes_on.running;
+  order = c.in-Full.ensures.goes_on.order;
+  is_open = ap (λ (x : EngineState). x.log.closed) (c.in-Full.ensures.still_open (λ x. cc)) ∙ c.requires.ready.over.is_open;
+}
+
+pub end_with-requires-clause-ready : goal.end_with-requires-clause-ready
+end_with-requires-clause-ready g c = record {
+  running = c.in-SourceFault.ensures.goes_on.running;
+  order = c.in-SourceFault.ensures.goes_on.order;
+  is_open = ap (λ (x : EngineState). x.log.closed) (c.in-SourceFault.ensures.still_open (λ x. cc)) ∙ c.requires.ready.over.is_open;
+}
+
+pub returns-in-Stored-clause-keeps : goal.returns-in-Stored-clause-keeps
+returns-in-Stored-clause-keeps g c =
     let d = g.D.Disk in
-    subst (λ x. Stands d.seen d.may_leave x c.store_body.new.self.log) (sym (c.in-Memory.ensures.memory refl).0)
-    (subst (λ (x : EngineState). Stands d.seen d.may_leave c.args.disk.now x.log) (sym (c.in-Memory.ensures.still_open (λ x. cc))) c.requires.stands)
+    behind_keeps d.seen d.may_leave d.faults c.args.disk.now c.store_body.new.disk c.finish_body.new.disk c.finish_body.result c.args.engine.now c.store_body.new.self c.finish_body.new.engine
+    (ap (λ (x : EngineState). x.log.closed) (c.in-Stored.ensures.still_open (λ x. cc)) ∙ c.requires.ready.over.is_open) c.in-Stored.ensures.keeps c.finish_body.ensures.keeps
+
+pub returns-in-Stored-clause-body : goal.returns-in-Stored-clause-body
+returns-in-Stored-clause-body g c =
+    let s = g.S.Source in
+    let read = c.in-Stored.ensures.stays in
+    read_further s.left s.read_faults s.source_stays g.met.S.Source.source_joined c.args.stream.now c.store_body.new.source c.finish_body.new.stream ⊥ (c.finish_body.result ≡ answered.SourceFault)
+    (record { source = read.0; stays = read.1; after = read.2; reads = c.in-Stored.ensures.reads; failed = λ x. absurd x }) c.finish_body.ensures.body
+
+pub returns-in-Full-clause-keeps : goal.returns-in-Full-clause-keeps
+returns-in-Full-clause-keeps g c =
+    let d = g.D.Disk in
+    behind_keeps d.seen d.may_leave d.faults c.args.disk.now c.store_body.new.disk c.refuse_for_room-in-Full.new.disk c.refuse_for_room-in-Full.result c.args.engine.now c.store_body.new.self c.refuse_for_room-in-Full.new.engine
+    (ap (λ (x : EngineState). x.log.closed) (c.in-Full.ensures.still_open (λ x. cc)) ∙ c.requires.ready.over.is_open) c.in-Full.ensures.keeps c.refuse_for_room-in-Full.ensures.keeps
+
+pub returns-in-Full-clause-body : goal.returns-in-Full-clause-body
+returns-in-Full-clause-body g c =
+    let s = g.S.Source in
+    let read = c.in-Full.ensures.stays in
+    read_further s.left s.read_faults s.source_stays g.met.S.Source.source_joined c.args.stream.now c.store_body.new.source c.refuse_for_room-in-Full.new.stream ⊥ (c.refuse_for_room-in-Full.result ≡ answered.SourceFault)
+    (record { source = read.0; stays = read.1; after = read.2; reads = c.in-Full.ensures.reads; failed = λ x. absurd x }) c.refuse_for_room-in-Full.ensures.body
+
+pub returns-in-SourceFault-clause-keeps : goal.returns-in-SourceFault-clause-keeps
+returns-in-SourceFault-clause-keeps g c =
+    let d = g.D.Disk in
+    let end = c.end_with in
+    let is_open = ap (λ (x : EngineState). x.log.closed) (c.in-SourceFault.ensures.still_open (λ x. cc)) ∙ c.requires.ready.over.is_open in
+    behind_keeps d.seen d.may_leave d.faults c.args.disk.now c.store_body.new.disk end.new.disk end.result c.args.engine.now c.store_body.new.self end.new.engine is_open c.in-SourceFault.ensures.keeps
+    (ended_keeps d.seen d.may_leave d.faults c.store_body.new.disk end.new.disk end.result answered.SourceFault c.store_body.new.self c.store_body.new.run end.new.engine is_open end.ensures.ends end.ensures.keeps end.ensures.stands end.ensures.disk)
+
+pub returns-in-SourceFault-clause-held : goal.returns-in-SourceFault-clause-held
+returns-in-SourceFault-clause-held g c = held_ended c.end_with.result answered.SourceFault c.store_body.new.self c.store_body.new.run c.end_with.new.engine c.end_with.ensures.ends tt
+
+pub returns-in-SourceFault-clause-body : goal.returns-in-SourceFault-clause-body
+returns-in-SourceFault-clause-body g c =
+    let read = c.in-SourceFault.ensures.stays in
+    record { source = read.0; stays = read.1; after = read.2; reads = c.in-SourceFault.ensures.reads; failed = λ x. c.in-SourceFault.ensures.failed refl }
+
+pub returns-in-Disk-clause-keeps : goal.returns-in-Disk-clause-keeps
+returns-in-Disk-clause-keeps g c = record {
+  stays = c.in-Disk.ensures.keeps;
+  stands = λ is_open. absurd (true≢false (sym (c.in-Disk.ensures.closed refl) ∙ is_open));
+  live = λ d m. absurd (d refl);
+  disk = λ e. c.in-Disk.ensures.disk refl;
+}
+
+pub returns-in-Disk-clause-body : goal.returns-in-Disk-clause-body
+returns-in-Disk-clause-body g c =
+    let read = c.in-Disk.ensures.stays in
+    record { source = read.0; stays = read.1; after = read.2; reads = c.in-Disk.ensures.reads; failed = λ x. absurd (disk_not_source x) }
+
+pub returns-in-Memory-clause-keeps : goal.returns-in-Memory-clause-keeps
+returns-in-Memory-clause-keeps g c =
+    let d = g.D.Disk in
+    let same = c.in-Memory.ensures.still_open (λ x. cc) in
+    record {
+      stays = c.in-Memory.ensures.keeps;
+      stands = subst (λ x. Stands d.seen d.may_leave x c.store_body.new.self.log) (sym (c.in-Memory.ensures.memory refl).0)
+          (subst (λ (x : EngineState). Stands d.seen d.may_leave c.args.disk.now x.log) (sym same) c.requires.ready.over.stands);
+      live = λ d m. absurd (m refl);
+      disk = λ e. absurd (memory_not_disk e);
+    }
+
+pub returns-in-Memory-clause-body : goal.returns-in-Memory-clause-body
+returns-in-Memory-clause-body g c =
+    let read = c.in-Memory.ensures.stays in
+    record { source = read.0; stays = read.1; after = read.2; reads = c.in-Memory.ensures.reads; failed = λ x. absurd (memory_not_source x) }

@@ -7,30 +7,18 @@ use Rattle.mt_log.specs.LogState.{told}
 use Rattle.mt_engine.specs.Opening.{NamesForeign}
 use Rattle.mt_engine.proofs.load.load.Goals as goal
 
-pub returns-clause-read : goal.returns-clause-read
-returns-clause-read g c =
+pub returns-clause-reads : goal.returns-clause-reads
+returns-clause-reads g c =
     let d = g.D.Disk in
     let now = c.load_payloads.new.disk.disk.now in
     let same : c.disk-1.given.0 ≡ now = search rules in
-    let read = c.load_payloads.ensures.read in
-    rw same (
-    subst (λ old. OnlyRead d.seen d.may_leave d.moment d.left_since old now) (ap (λ b. b.now) c.new-ahead.ensures)
-    (record { seen_same = read.seen_same; images = read.images; time = read.time })
-    )
-
-pub returns-clause-disk : goal.returns-clause-disk
-returns-clause-disk g c is =
-    let d = g.D.Disk in
-    let now = c.load_payloads.new.disk.disk.now in
-    let same : c.disk-1.given.0 ≡ now = search rules in
-    rw same (subst (λ old. Rose (d.faults old) (d.faults now)) (ap (λ b. b.now) c.new-ahead.ensures) (c.load_payloads.ensures.disk is))
-
-pub returns-clause-faults : goal.returns-clause-faults
-returns-clause-faults g c =
-    let d = g.D.Disk in
-    let now = c.load_payloads.new.disk.disk.now in
-    let same : c.disk-1.given.0 ≡ now = search rules in
-    rw same (subst (λ old. NeverFell (d.faults old) (d.faults now)) (ap (λ b. b.now) c.new-ahead.ensures) c.load_payloads.ensures.faults)
+    let looks = c.load_payloads.ensures.looks in
+    let lent = ap (λ b. b.now) c.new-ahead.ensures in
+    rw same (record {
+      read = subst (λ old. OnlyRead d.seen d.may_leave d.moment d.left_since old now) lent (record { seen_same = looks.read.seen_same; images = looks.read.images; time = looks.read.time });
+      disk = λ is. subst (λ old. Rose (d.faults old) (d.faults now)) lent (looks.disk is);
+      faults = subst (λ old. NeverFell (d.faults old) (d.faults now)) lent looks.faults;
+    })
 
 pub returns-clause-foreign : goal.returns-clause-foreign
 returns-clause-foreign g c why is =

@@ -3,6 +3,7 @@ use Rattle.std.proofs.Common.{ap, sym, ◌∙◌, arith}
 use Rattle.mt_disk.proofs.Readings.{reads_none}
 use Rattle.mt_log.specs.LogState.{told}
 use Rattle.mt_log.proofs.Standing.{tells_log}
+use Rattle.mt_engine.proofs.Looks.{there_on}
 use Rattle.mt_engine.proofs.Loading.{all_loaded, first_loading, record_here}
 use Rattle.mt_engine.proofs.load.load_payloads.Goals as goal
 
@@ -14,15 +15,21 @@ payloads-init g c = record {
   stays = g.met.D.Disk.same _;
 }
 
-pub load_one-requires-clause-place : goal.load_one-requires-clause-place
-load_one-requires-clause-place g c ps is =
+pub load_one-requires-clause-ready : goal.load_one-requires-clause-ready
+load_one-requires-clause-ready g c =
     let i = c.payloads.invariant in
-    let was = sym (ap told i.read.seen_same) ∙ is in
-    let log = tells_log g.D.Disk.seen c.args.disk.now c.args.log.now c.requires.there c.requires.is_open ps was in
-    record_here ps c.payloads.place c.payloads.account c.payloads.places.earlier.items c.payloads.places.last (i.so_far ps was) _ _ _ log.holds (omega (arith, c.payloads-test.true, c.len-gate.ensures))
+    let seen = g.D.Disk.seen in
+    record {
+      there = there_on seen c.args.disk.now c.payloads.disk c.args.log.now i.read.seen_same c.requires.ready.there;
+      is_open = c.requires.ready.is_open;
+      place = λ ps is.
+          let was = sym (ap told i.read.seen_same) ∙ is in
+          let log = tells_log seen c.args.disk.now c.args.log.now c.requires.ready.there c.requires.ready.is_open ps was in
+          record_here ps c.payloads.place c.payloads.account c.payloads.places.earlier.items c.payloads.places.last (i.so_far ps was) _ _ _ log.holds (omega (arith, c.payloads-test.true, c.len-gate.ensures));
+    }
 
 pub returns-clause-loaded : goal.returns-clause-loaded
 returns-clause-loaded g c ps is =
     let i = c.payloads.invariant in
-    let log = tells_log g.D.Disk.seen c.args.disk.now c.args.log.now c.requires.there c.requires.is_open ps is in
+    let log = tells_log g.D.Disk.seen c.args.disk.now c.args.log.now c.requires.ready.there c.requires.ready.is_open ps is in
     all_loaded ps c.payloads.place c.payloads.account c.payloads.places.earlier.items c.payloads.places.last (i.so_far ps is) _ _ _ log.holds (omega (arith, c.payloads-test.false, c.len-gate.ensures))

@@ -1,4 +1,4 @@
-use Rattle.std.proofs.Common.{◌≡◌, length, sym, subst, ap, ◌∙◌, arith}
+use Rattle.std.proofs.Common.{◌≡◌, length, refl, sym, subst, ap, ◌∙◌, arith}
 use Rattle.mt_body.specs.Stored.{bytes_of}
 use Rattle.mt_model.specs.CommandStep.{allowed}
 use Rattle.mt_types.specs.Values.{command_with}
@@ -24,11 +24,19 @@ returns-in-Err-clause-any_moment g c =
     let d = g.D.Disk in
     none_added d.moment d.left_since c.args.disk.now c.end_run.new.disk (d.seen c.args.disk.now) c.args.self.now c.args.run c.args.command c.match-end_run.result c.end_run.ensures.any_moment
 
+pub returns-in-Err-encode-clause-keeps : goal.returns-in-Err-encode-clause-keeps
+returns-in-Err-encode-clause-keeps g c = record {
+  told = λ is_open. refl;
+  version = λ is_open. ap (λ (e : EngineState). e.log.is_old) (c.give_up.ensures.1);
+  limit = λ is_open. ap (λ (e : EngineState). e.log.limit) (c.give_up.ensures.1);
+  faults = omega arith;
+}
+
 pub returns-in-Err-encode-clause-any_moment : goal.returns-in-Err-encode-clause-any_moment
 returns-in-Err-encode-clause-any_moment g c =
     let d = g.D.Disk in
     none_added d.moment d.left_since c.args.disk.now c.args.disk.now (d.seen c.args.disk.now) c.args.self.now c.args.run c.args.command c.give_up.result
-    (idle_leaves d.seen d.may_leave d.moment d.left_since c.args.disk.now c.args.self.now c.args.run c.requires.running (g.met.D.Disk.only_now c.args.disk.now))
+    (idle_leaves d.seen d.may_leave d.moment d.left_since c.args.disk.now c.args.self.now c.args.run c.requires.ready.running (g.met.D.Disk.only_now c.args.disk.now))
 
 pub returns-then-count-eq-MOST_COMMANDS-clause-accepts : goal.returns-then-count-eq-MOST_COMMANDS-clause-accepts
 returns-then-count-eq-MOST_COMMANDS-clause-accepts g c base h qs writing stored =

@@ -6,14 +6,14 @@ use Rattle.mt_log.specs.LogState.{LogState}
 use Rattle.mt_log.specs.RunState.{HasTaken, Running}
 use Rattle.mt_engine.specs.Current.{EngineState}
 use Rattle.mt_engine.proofs.Ends.{end_leaves, ended_current}
-use Rattle.mt_engine.proofs.Runs.{ends_so, where_open}
+use Rattle.mt_engine.proofs.Runs.{ended_same, ends_so, where_open}
 use Rattle.mt_engine.proofs.engine.Engine.end_run.Goals as goal
 
 pub end_log_run-requires-clause-running : goal.end_log_run-requires-clause-running
-end_log_run-requires-clause-running g c = subst (λ (e : EngineState). Running g.D.Disk.seen g.D.Disk.may_leave c.args.disk.now e.log c.args.run) (sym c.self.view_is) c.requires.running
+end_log_run-requires-clause-running g c = subst (λ (e : EngineState). Running g.D.Disk.seen g.D.Disk.may_leave c.args.disk.now e.log c.args.run) (sym c.self.view_is) c.requires.ready.running
 
 pub end_log_run-requires-clause-order : goal.end_log_run-requires-clause-order
-end_log_run-requires-clause-order g c = subst (λ (e : EngineState). e.log.closed ≡ false → e.log.gate ≤ c.args.run.next) (sym c.self.view_is) c.requires.order
+end_log_run-requires-clause-order g c = subst (λ (e : EngineState). e.log.closed ≡ false → e.log.gate ≤ c.args.run.next) (sym c.self.view_is) c.requires.ready.order
 
 pub returns-clause-ends : goal.returns-clause-ends
 returns-clause-ends g c =
@@ -35,8 +35,14 @@ returns-clause-any_moment g c base h qs w =
     (subst (λ (x : EngineState). ForSome (d.seen c.args.disk.now) (λ files. (records : List (List ℕ)) → HasTaken (d.seen c.args.disk.now) x.log c.args.run records →
     LeavesOnly d.moment d.left_since c.args.disk.now c.end_log_run.new.disk (IsBeforeOrAfter files records))) c.self.view_is c.end_log_run.ensures.any_moment)
 
-pub returns-clause-told : goal.returns-clause-told
-returns-clause-told g c is_open =
+pub returns-clause-keeps : goal.returns-clause-keeps
+returns-clause-keeps g c =
     let d = g.D.Disk in
-    where_open c.end_log_run.result c.end_log_run.new.log.closed (is_some (d.seen c.end_log_run.new.disk) ≡ is_some (d.seen c.args.disk.now)) c.end_log_run.ensures.told
-    (λ e. ap (λ (l : LogState). l.closed) (c.end_log_run.ensures.closes e)) is_open
+    let same = ended_same c.end_log_run.result c.self.inside.log c.end_log_run.new.log c.args.run.next c.end_log_run.ensures.place c.end_log_run.ensures.closes in
+    record {
+      told = λ is_open. where_open c.end_log_run.result c.end_log_run.new.log.closed (is_some (d.seen c.end_log_run.new.disk) ≡ is_some (d.seen c.args.disk.now)) c.end_log_run.ensures.told
+          (λ e. ap (λ (l : LogState). l.closed) (c.end_log_run.ensures.closes e)) is_open;
+      version = λ is_open. same.0 ∙ ap (λ (e : EngineState). e.log.is_old) c.self.view_is;
+      limit = λ is_open. same.1 ∙ ap (λ (e : EngineState). e.log.limit) c.self.view_is;
+      faults = c.end_log_run.ensures.faults;
+    }

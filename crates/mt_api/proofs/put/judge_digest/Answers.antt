@@ -11,7 +11,7 @@ use Rattle.mt_api.specs.Answered.{used}
 use Rattle.mt_api.specs.Steps.{Settles, refusal}
 use Rattle.mt_api.proofs.Ends.{leaves_same}
 use Rattle.mt_api.proofs.Puts.{stored_adds, stored_refused, whole_next, whole_ready}
-use Rattle.mt_api.proofs.put.decide.Goals as goal
+use Rattle.mt_api.proofs.put.judge_digest.Goals as goal
 
 pub add-requires-clause-adds : goal.add-requires-clause-adds
 add-requires-clause-adds g c = stored_adds c.args.engine.now c.args.call c.requires.stores
