@@ -470,4 +470,5 @@ def main():
     rows("new", "put /l/stor/a 3", "made 100 /l/stor/a", "ready", "asked 1000 64", "asked 3 1", "committed 4096 1", "asked 1 64", "asked 1 0", "page running 700000 9")
 
 
-main()
+if __name__ == "__main__":
+    main()
