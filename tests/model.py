@@ -16,7 +16,7 @@ JSON = "application/json"
 PAGE_TYPE = "application/x-json-stream; type=directory"
 METHODS = "DELETE, GET, HEAD, PUT"
 PHRASES = {
-    200: "OK", 204: "No Content", 206: "Partial Content", 304: "Not Modified", 400: "Bad Request", 403: "Forbidden",
+    200: "OK", 201: "Created", 202: "Accepted", 204: "No Content", 206: "Partial Content", 304: "Not Modified", 400: "Bad Request", 403: "Forbidden",
     404: "Not Found", 405: "Method Not Allowed", 409: "Conflict", 412: "Precondition Failed", 413: "Content Too Large",
     416: "Range Not Satisfiable", 507: "Insufficient Storage",
 }
@@ -37,6 +37,10 @@ ERRORS = {
     "ContentMD5Mismatch": (400, "the body does not have this MD5"),
     "RequestEntityTooLarge": (413, "the body is over the limit"),
     "InvalidLimit": (400, "the limit must be 1 to 1024"),
+    "InvalidJob": (400, "the job document is not valid"),
+    "JobNotFound": (404, "no such job"),
+    "JobState": (400, "the job does not take this now"),
+    "InvalidArgument": (400, "too many inputs"),
     "NotEnoughSpace": (507, "the log is full"),
     "MethodNotAllowed": (405, "the method is not allowed here"),
     "Authorization": (403, "not this account"),
@@ -66,9 +70,13 @@ def digest_text(data):
     return base64.b64encode(hashlib.md5(data).digest()).decode()
 
 
-def etag(number):
+def identifier(kind, number):
     # RFC 9562, version 8: the kind, then the number behind the bit of the variant.
-    return str(uuid.UUID(int=(1 << 96) | (8 << 76) | (1 << 63) | number))
+    return str(uuid.UUID(int=(kind << 96) | (8 << 76) | (1 << 63) | number))
+
+
+def etag(number):
+    return identifier(1, number)
 
 
 def http_date(moment):
@@ -145,6 +153,112 @@ def read_path(login, target):
     refuse("Authorization", pieces[0] != login.encode())
     refuse("ResourceNotFound", len(pieces) < 2 or pieces[1] not in (b"stor", b"public", b"jobs"))
     return tuple(pieces[1:])
+
+
+def methods_of(path):
+    """The methods of a path; None of one that is for nothing."""
+    if path[0] != b"jobs":
+        return METHODS
+    if path[2:3] != (b"live",):
+        return "GET, HEAD" if path[1:] else "GET, HEAD, POST"
+    live = {(b"in",): "GET, HEAD, POST", (b"in", b"end"): "POST", (b"cancel",): "POST"}
+    live |= {(name,): "GET, HEAD" for name in (b"status", b"out", b"fail", b"err", b"tasks")}
+    return live.get(path[3:])
+
+
+def dumped(value):
+    return json.dumps(value, separators=(",", ":"), sort_keys=True, ensure_ascii=False)
+
+
+def read_text_path(login, text):
+    """The path that a text names as it stands, or None."""
+    if not text.startswith(("/", "~~/")):
+        return None
+    pieces = [piece.encode() for piece in text.split("/") if piece]
+    if pieces and pieces[0] == b"~~":
+        pieces[0] = login.encode()
+    try:
+        # the rules of a target, without decoding: what is escaped stays so
+        return read_path(login, "/" + "/".join(urllib.parse.quote(piece, safe="") for piece in pieces))
+    except Refused:
+        return None
+
+
+MOST_LINES, MOST_ASSET_BYTES = 1_000_000, 1 << 24
+TEXT_TYPES = {"err": "application/x-json-stream", "fail": "text/plain", "in": "text/plain", "status": JSON, "out": "text/plain",
+              "tasks": "application/x-json-stream"}
+ARCHIVE = (("err", b"err.txt"), ("fail", b"fail.txt"), ("in", b"in.txt"), ("status", b"job.json"), ("out", b"out.txt"))
+
+
+def read_document(login, body):
+    """A job document: its name and its phases; the first fault refuses it."""
+    def bad(test=True):
+        refuse("InvalidJob", test)
+
+    def whole(text):
+        raise ValueError(text)
+
+    try:
+        value = json.loads(body.decode(), parse_constant=whole)
+    except (ValueError, RecursionError):
+        bad()
+    bad(not isinstance(value, dict) or not isinstance(value.get("phases"), list) or not 1 <= len(value["phases"]) <= 16)
+    is_line = lambda text, least: isinstance(text, str) and least <= len(text.encode()) <= 65_536 and "\0" not in text
+    phases = []
+    for phase in value["phases"]:
+        bad(not isinstance(phase, dict) or phase.get("type", "map") not in ("map", "reduce"))
+        bad(not is_line(phase.get("exec"), 1) or not is_line(phase.get("init", ""), 0))
+        assets = phase.get("assets", [])
+        bad(not isinstance(assets, list) or len(assets) > 64)
+        names = [read_text_path(login, name) if isinstance(name, str) else None for name in assets]
+        bad(None in names)
+        reduces = phase.get("type") == "reduce"
+        count = phase.get("count", 1) if reduces else None
+        bad(reduces and (type(count) is not int or not 1 <= count <= 1_024))
+        phases.append((count, phase["exec"], phase.get("init", ""), names))
+    name = value.get("name")
+    return (name if isinstance(name, str) and len(name.encode()) <= 1 << 24 else ""), phases
+
+
+class Job:
+    def __init__(self, number, moment, name, phases):
+        self.number, self.created, self.name, self.phases = number, moment, name, phases
+        self.inputs, self.missing, self.ended, self.cancelled, self.done = [], [], False, False, None
+
+    def lines(self, login, text):
+        shown = lambda line: line if isinstance(line, str) else printed(login, line)
+        if text == "in":
+            return [printed(login, path) for path in self.inputs]
+        if text == "fail":
+            return [shown(line) for line in self.missing]
+        if text == "err":
+            return [dumped({"code": "ResourceNotFound", "input": shown(line), "message": "no such object", "phase": 0}) for line in self.missing]
+        return []  # no task is committed in this model
+
+    def status(self, login):
+        phases = []
+        for count, execute, init, assets in self.phases:
+            said = {"assets": [printed(login, path) for path in assets], "exec": execute, "type": "map" if count is None else "reduce"}
+            said |= {"init": init} if init else {}
+            phases.append(said | ({"count": count} if count is not None else {}))
+        stats = {"errors": len(self.missing), "inputs": len(self.inputs), "outputs": 0, "tasksDone": 0}
+        return dumped({"cancelled": self.cancelled, "id": identifier(2, self.number), "inputDone": self.ended, "name": self.name, "phases": phases,
+                       "state": "running" if self.done is None else "done", "stats": stats, "timeCreated": iso_time(self.created),
+                       "timeDone": None if self.done is None else iso_time(self.done)})
+
+    def text(self, login, text):
+        return (self.status(login) if text == "status" else "".join(line + "\n" for line in self.lines(login, text))).encode()
+
+
+def printed(login, path):
+    return "/" + "/".join([login] + [part.decode() for part in path])
+
+
+def first_of_query(head, name, absent):
+    """The value of the first pair of a name in a query."""
+    query = head.target.partition("?")[2]
+    pairs = urllib.parse.parse_qsl(query, keep_blank_values=True, errors="replace")
+    return next((value for key, value in pairs if key == name), absent)
 
 
 class Conditions:
@@ -264,8 +378,9 @@ def pieces_size(n):
 class Store:
     """The account, and how many bytes its log has."""
 
-    def __init__(self, login="l", limit=1 << 30):
+    def __init__(self, login="l", limit=1 << 30, takes_jobs=False):
         self.login, self.limit, self.used, self.count, self.moment = login, limit, 9, 0, 0
+        self.takes_jobs, self.jobs = takes_jobs, {}
         self.rows = {(area,): Row(0) for area in (b"stor", b"public", b"jobs")}
 
     # What stands at a path.
@@ -336,16 +451,25 @@ class Store:
         doing, path = None, None
         try:
             path = read_path(self.login, head.target)
-            refuse("NotBuilt", path[0] == b"jobs")
-            refuse("MethodNotAllowed", head.method not in METHODS.split(", "), allow=METHODS)
+            methods = methods_of(path)
+            refuse("ResourceNotFound", methods is None)
+            refuse("MethodNotAllowed", head.method not in methods.split(", "), allow=methods)
             refuse("OriginRefused", head.first("service-worker") is not None or head.method not in ("GET", "HEAD") and head.first("origin") is not None)
+            state = first_of_query(head, "state", None) if path == (b"jobs",) and head.method != "POST" else None
+            of_jobs = path[2:3] == (b"live",) and path[0] == b"jobs" or path == (b"jobs",) and head.method == "POST" or state in ("running", "done")
+            refuse("NotBuilt", of_jobs and not self.takes_jobs)
         except Refused:
             self.must_be_whole(body)
             raise
+        if of_jobs:
+            self.must_be_whole(body)
+            self.digest_refusal(head, body.data)
+            return self.ask_jobs(head, path, state, body.data)
         kind = (head.first("content-type") or "").replace(" ", "").replace("\t", "").lower()
         if head.method != "PUT":
             self.must_be_whole(body)
             self.digest_refusal(head, body.data)
+            refuse("BadRequest", state is not None)
             doing = self.remove if head.method == "DELETE" else self.look
             return doing(head, path)
         if kind in ("application/json;type=directory", "application/x-json-stream;type=directory"):
@@ -459,12 +583,9 @@ class Store:
         return 206, row.fields() + [("content-range", f"bytes {first}-{to - 1}/{len(row.body)}")], row.body[first:to]
 
     def page(self, head):
-        query = head.target.partition("?")[2]
-        pairs = urllib.parse.parse_qsl(query, keep_blank_values=True, errors="replace")
-        first = lambda name, absent: next((value for key, value in pairs if key == name), absent)
-        limit = decimal(first("limit", "256"))
+        limit = decimal(first_of_query(head, "limit", "256"))
         refuse("InvalidLimit", limit is None or not 1 <= limit <= 1_024)
-        return limit, first("marker", "").encode()
+        return limit, first_of_query(head, "marker", "").encode()
 
     def line(self, path):
         row, name = self.rows[path], path[-1].decode()
@@ -472,3 +593,95 @@ class Store:
         if row.is_object():
             said |= {"etag": etag(row.number), "size": len(row.body), "type": "object"}
         return json.dumps(said, separators=(",", ":"), sort_keys=True, ensure_ascii=False) + "\n"
+
+    # What is asked of jobs. The model has no tasks: a job of it ends by being cancelled.
+    def ask_jobs(self, head, path, state, data):
+        if state is not None:
+            return self.list_jobs(head, state)
+        if len(path) == 1:
+            return self.make_job(data)
+        route, posts = path[3:], head.method == "POST"
+        if route == (b"in",) and posts:
+            return self.add_lines(path[1], data)
+        job = self.job_at(path[1])
+        if route == (b"in", b"end"):
+            self.input_refusal(job)
+            self.accept(bytes(17))
+            job.ended = True
+            return 202, [], b""
+        if route == (b"cancel",):
+            return self.cancel_job(job)
+        text = route[0].decode()
+        count = [] if text == "status" else [("result-set-size", str(len(job.lines(self.login, text))))]
+        return 200, [("content-type", TEXT_TYPES[text]), *count], job.text(self.login, text)
+
+    def job_at(self, name):
+        job = self.jobs.get(name)
+        refuse("JobNotFound", job is None)
+        return job
+
+    def input_refusal(self, job):
+        refuse("JobState", job.done is not None or job.ended)
+
+    def list_jobs(self, head, state):
+        limit, marker = self.page(head)
+        jobs = [(name, job) for name, job in sorted(self.jobs.items()) if (job.done is None) == (state == "running")]
+        text = "".join(self.line((b"jobs", name)) for name, _ in [found for found in jobs if found[0] >= marker][:limit])
+        return 200, [("content-type", PAGE_TYPE), ("result-set-size", str(len(jobs)))], text.encode()
+
+    def make_job(self, data):
+        name, phases = read_document(self.login, data)
+        found = [[self.rows.get(path) for path in assets] for *_, assets in phases]
+        refuse("ResourceNotFound", any(row is None or not row.is_object() for rows in found for row in rows))
+        refuse("InvalidJob", any(sum(len(row.body) for row in rows) > MOST_ASSET_BYTES for rows in found))
+        sized = lambda text: struct.pack(">I", len(text.encode())) + text.encode()
+        command = struct.pack(">BQ", 5, self.moment) + sized(name) + struct.pack(">B", len(phases))
+        for count, execute, init, assets in phases:
+            command += (b"\0" if count is None else struct.pack(">BI", 1, count)) + sized(execute)
+            command += (b"\1" + sized(init) if init else b"\0") + struct.pack(">B", len(assets))
+            command += b"".join(self.path_bytes(path) for path in assets)
+        number = self.count * 4_096
+        self.accept(command)
+        job = Job(number, self.moment, name, phases)
+        folder = identifier(2, number).encode()
+        self.jobs[folder] = job
+        self.rows[(b"jobs", folder)] = self.rows[(b"jobs", folder, b"stor")] = Row(self.moment)
+        return 201, [("location", printed(self.login, (b"jobs", folder)))], b""
+
+    def add_lines(self, name, data):
+        try:
+            pieces = data.decode().split("\n")
+        except UnicodeDecodeError:
+            refuse("BadRequest")
+        lines = [piece[:-1] if piece.endswith("\r") else piece for piece in pieces[:-1]] + pieces[-1:]
+        lines = [line for line in lines if line]
+        job = self.job_at(name)
+        self.input_refusal(job)
+        refuse("InvalidArgument", len(job.inputs) + len(job.missing) + len(lines) > MOST_LINES)
+        named = [(read_text_path(self.login, line), line) for line in lines]
+        command = struct.pack(">BQQI", 6, self.moment, job.number, len(lines))
+        for path, line in named:
+            command += b"\0" + self.path_bytes(path) if path else struct.pack(">BI", 1, len(line.encode())) + line.encode()
+        self.accept(command)
+        for path, line in named:
+            row = self.rows.get(path) if path else None
+            if row is not None and row.is_object():
+                job.inputs.append(path)
+            else:
+                job.missing.append(path or line)
+        return 204, [], b""
+
+    def cancel_job(self, job):
+        refuse("JobState", job.done is not None)
+        cancelled, done, job.cancelled, job.done = job.cancelled, job.done, True, self.moment
+        texts = [(name, kind, job.text(self.login, kind)) for kind, name in ARCHIVE]
+        growth = sum(pieces_size(len(text)) for *_, text in texts) + 21 + 98
+        if self.used + growth > self.limit:
+            job.cancelled, job.done = cancelled, done
+            raise Refused("NotEnoughSpace")
+        self.used += growth
+        self.count += 1
+        folder = identifier(2, job.number).encode()
+        for index, (name, kind, text) in enumerate(texts):
+            self.rows[(b"jobs", folder, name)] = Row(self.moment, text, (self.count - 1) * 4_096 + index, TEXT_TYPES[kind])
+        return 202, [], b""

@@ -1,12 +1,12 @@
 -- The account takes the command of a request that isn't refused.
-use Rattle.std.proofs.Common.{◌≡◌, ℕ, Bool, true, false, List, [], ◌∷◌, codes, bytes_eq, Option, Some, None, option_map, Result, Ok, Err, refl, sym, ap, ◌∙◌, if◌then◌else◌}
+use Rattle.std.proofs.Common.{◌≡◌, ℕ, ◌==◌, Bool, true, false, List, length, codes, bytes_eq, Option, Some, None, option_map, Result, Ok, Err, refl, sym, ap, ◌∙◌, if◌then◌else◌}
 use Rattle.std.proofs.lemmas.Option.{same_Some}
+use Rattle.mt_ident.specs.Identifiers.{identifier_number}
 use Rattle.mt_cond.specs.Conditions.{judged}
 use Rattle.mt_cond.specs.declared.conditions.Conditions.{Conditions}
 use Rattle.mt_cond.specs.declared.conditions.Judged.{Judged}
 use Rattle.mt_error.specs.Refusals.{plain}
 use Rattle.mt_error.specs.declared.code.ErrorCode.{ErrorCode}
-use Rattle.mt_error.specs.declared.code.ErrorCode.TheVariants as error
 use Rattle.mt_error.specs.declared.refused.Refused.{Refused}
 use Rattle.mt_http.specs.declared.message.Head.{Head}
 use Rattle.mt_model.specs.CommandStep.{allowed, outside_jobs}
@@ -17,19 +17,27 @@ use Rattle.mt_path.specs.AccountPath.{AccountPath}
 use Rattle.mt_path.specs.declared.area.Area.{Area}
 use Rattle.mt_path.specs.declared.area.Area.TheVariants as area
 use Rattle.mt_request.specs.Digest.{digest_refusal, wish_of}
-use Rattle.mt_request.specs.Order.{first_of}
-use Rattle.mt_request.specs.Order as order
 use Rattle.mt_request.specs.Puts.{doing_by, kind_in, link_doing, link_to, unless}
-use Rattle.mt_request.specs.Query.{page_of, query_of}
-use Rattle.mt_request.specs.Requests.{asked_at, doing_of, late_of, range_of_head, request_by, request_of}
-use Rattle.mt_request.specs.Target.{method_refusal, path_read}
-use Rattle.mt_request.specs.Target as target
+use Rattle.mt_request.specs.Query.{query_of, stand_in}
+use Rattle.mt_request.specs.Requests.{asked_at, asked_by, asked_late, asked_of, is_post, late_at, listed, look_at, of_rows, request_of, wanted_at}
+use Rattle.mt_request.specs.Routes.{is_input_end, jobs_route, live_named, live_route, part_at, route_of}
+use Rattle.mt_request.specs.Routes as routes
+use Rattle.mt_request.specs.Target.{early_at, path_read}
+use Rattle.mt_request.specs.declared.asked.Asked.{Asked}
+use Rattle.mt_request.specs.declared.asked.Asked.TheVariants as asked
+use Rattle.mt_request.specs.declared.asked.Wanted.{Wanted}
+use Rattle.mt_request.specs.declared.asked.Wanted.TheVariants as wanted
 use Rattle.mt_request.specs.declared.digest.Wish.{Wish}
+use Rattle.mt_request.specs.declared.jobs.JobDoing.TheVariants as jobs
 use Rattle.mt_request.specs.declared.kind.Kind.{Kind}
 use Rattle.mt_request.specs.declared.kind.Kind.TheVariants as kind
 use Rattle.mt_request.specs.declared.request.Doing.{Doing}
 use Rattle.mt_request.specs.declared.request.Doing.TheVariants as doing
 use Rattle.mt_request.specs.declared.request.Request.{Request}
+use Rattle.mt_request.specs.declared.route.Route.{Route}
+use Rattle.mt_request.specs.declared.route.Route.TheVariants as route
+use Rattle.mt_types.specs.declared.live.JobStand.{JobStand}
+use Rattle.mt_types.specs.declared.live.LiveText.TheVariants as live
 use Rattle.mt_store.specs.Decisions.{decided, delete_decision, link_decision, put_decision, verdict_on}
 use Rattle.mt_types.specs.Fields.{first_value}
 use Rattle.mt_types.specs.declared.body.Body.{Body}
@@ -52,11 +60,6 @@ IsOutside (doing.PutLink p source) = is_jobs p.area ≡ false
 IsOutside (doing.Remove p) = is_jobs p.area ≡ false
 IsOutside (doing.Look p page range) = Unit {0}
 
-same_area : (a : Area) → target.is_jobs a ≡ false → is_jobs a ≡ false
-same_area area.Stor out = refl
-same_area area.Public out = refl
-same_area area.Jobs out = out
-
 linked : (p : AccountPath) (source : Result AccountPath ErrorCode) → is_jobs p.area ≡ false → IsOutside (link_to p source)
 linked p (Ok source) out = out
 linked p (Err code) out = tt
@@ -71,34 +74,121 @@ by_kind kind.Directory p login fields out = out
 by_kind kind.Link p login fields out = linked_at p login (first_value (codes "location") fields) out
 
 by_method : (put delete : Bool) (p : AccountPath) (login : List ℕ) (head : Head) → is_jobs p.area ≡ false
-    → IsOutside (if put then doing_by (kind_in head.fields) p login head.fields else (if delete then doing.Remove p else doing.Look p (page_of (query_of head.target)) (range_of_head head)))
+    → IsOutside (if put then doing_by (kind_in head.fields) p login head.fields else (if delete then doing.Remove p else look_at p head))
 by_method true delete p login head out = by_kind (kind_in head.fields) p login head.fields out
 by_method false true p login head out = out
 by_method false false p login head out = tt
 
-unless_late : (late : Option ErrorCode) (wish : Wish) (asked : Doing) → IsOutside asked → IsOutside (request_by None wish (unless late asked)).doing
-unless_late None wish asked out = out
-unless_late (Some code) wish asked out = tt
+-- what is to be done with objects and directories
+abbrev IsWantedOutside : Wanted → Type 0
+IsWantedOutside (wanted.Rows asks) = IsOutside asks
+IsWantedOutside (wanted.Jobs asks) = Unit {0}
 
--- behind a path that is one
-at_area : (jobs : Bool) (method page : Option Refused) (wish : Wish) (late : Option ErrorCode) (asked : Doing) → (jobs ≡ false → IsOutside asked)
-    → IsOutside (request_by (first_of (None ∷ option_map plain (order.refuse_if jobs error.NotBuilt) ∷ method ∷ page ∷ [])) wish (unless late asked)).doing
-at_area true method page wish late asked out = tt
-at_area false (Some refused) page wish late asked out = tt
-at_area false None (Some refused) wish late asked out = tt
-at_area false None None wish late asked out = unless_late late wish asked (out refl)
+listed_outside : (stand : Option (Option JobStand)) (p : AccountPath) (head : Head) → IsWantedOutside (listed stand p head)
+listed_outside (Some (Some stand)) p head = tt
+listed_outside (Some None) p head = tt
+listed_outside None p head = tt
 
-by_path : (p : Result AccountPath ErrorCode) (login : List ℕ) (head : Head)
-    → IsOutside (request_by (first_of (option_map plain (target.path_refusal p) ∷ option_map plain (order.refuse_if (target.is_later p) error.NotBuilt) ∷ method_refusal head.method ∷ option_map plain (target.origin_refusal head) ∷ []))
-    (wish_of head.fields) (asked_at p login head)).doing
+jobs_outside : (b : Bool) (p : AccountPath) (head : Head) → IsWantedOutside (if b then wanted.Jobs jobs.MakeJob else listed (stand_in (query_of head.target)) p head)
+jobs_outside true p head = tt
+jobs_outside false p head = listed_outside (stand_in (query_of head.target)) p head
+
+input_outside : (b : Bool) (job : Option ℕ) → IsWantedOutside (if b then wanted.Jobs (jobs.PostLines job) else wanted.Jobs (jobs.LookLive job live.In))
+input_outside true job = tt
+input_outside false job = tt
+
+by_route : (r : Route) (p : AccountPath) (login : List ℕ) (head : Head) → (r ≡ route.Rows → is_jobs p.area ≡ false) → IsWantedOutside (wanted_at r p login head)
+by_route route.Rows p login head out = by_method (bytes_eq head.method (codes "PUT")) (bytes_eq head.method (codes "DELETE")) p login head (out refl)
+by_route route.Jobs p login head out = jobs_outside (is_post head) p head
+by_route route.JobRow p login head out = tt
+by_route (route.Live job text) p login head out = tt
+by_route (route.Input job) p login head out = input_outside (is_post head) job
+by_route (route.InputEnd job) p login head out = tt
+by_route (route.Cancel job) p login head out = tt
+by_route route.Nowhere p login head out = tt
+
+-- no path in the area of jobs is one of the owner's objects and directories
+abbrev IsNotRows : Route → Type 0
+IsNotRows route.Rows = ⊥
+IsNotRows route.Jobs = Unit {0}
+IsNotRows route.JobRow = Unit {0}
+IsNotRows (route.Live job text) = Unit {0}
+IsNotRows (route.Input job) = Unit {0}
+IsNotRows (route.InputEnd job) = Unit {0}
+IsNotRows (route.Cancel job) = Unit {0}
+IsNotRows route.Nowhere = Unit {0}
+
+either : (b : Bool) (x y : Route) → IsNotRows x → IsNotRows y → IsNotRows (if b then x else y)
+either true x y left right = left
+either false x y left right = right
+
+named : (job : Option ℕ) (name : List ℕ) → IsNotRows (live_named job name)
+named job name =
+    either (bytes_eq name (codes "in")) (route.Input job) _ tt (
+    either (bytes_eq name (codes "cancel")) (route.Cancel job) _ tt (
+    either (bytes_eq name (codes "status")) (route.Live job live.Status) _ tt (
+    either (bytes_eq name (codes "out")) (route.Live job live.Out) _ tt (
+    either (bytes_eq name (codes "fail")) (route.Live job live.Fail) _ tt (
+    either (bytes_eq name (codes "err")) (route.Live job live.Err) _ tt (
+    either (bytes_eq name (codes "tasks")) (route.Live job live.Tasks) route.Nowhere tt tt))))))
+
+of_jobs : (parts : List (List ℕ)) → IsNotRows (jobs_route parts)
+of_jobs parts =
+    let job : Option ℕ = identifier_number 2 (part_at parts 0) in
+    let below : IsNotRows (live_route job parts) =
+    either (length parts == 3) (live_named job (part_at parts 2)) _ (named job (part_at parts 2)) (either (is_input_end parts) (route.InputEnd job) route.Nowhere tt tt) in
+    either (length parts == 0) route.Jobs _ tt (either (bytes_eq (part_at parts 1) (codes "live")) (live_route job parts) route.JobRow below tt)
+
+not_rows : (r : Route) → IsNotRows r → r ≡ route.Rows → ⊥
+not_rows route.Rows is same = is
+not_rows route.Jobs is same = cc
+not_rows route.JobRow is same = cc
+not_rows (route.Live job text) is same = cc
+not_rows (route.Input job) is same = cc
+not_rows (route.InputEnd job) is same = cc
+not_rows (route.Cancel job) is same = cc
+not_rows route.Nowhere is same = cc
+
+by_area : (a : Area) (parts : List (List ℕ)) → (if routes.is_jobs a then jobs_route parts else route.Rows) ≡ route.Rows → is_jobs a ≡ false
+by_area area.Stor parts is = refl
+by_area area.Public parts is = refl
+by_area area.Jobs parts is = absurd (not_rows (jobs_route parts) (of_jobs parts) is)
+
+rows_outside : (p : AccountPath) → route_of p ≡ route.Rows → is_jobs p.area ≡ false
+unfolding route_of
+rows_outside p is = by_area p.area p.parts is
+
+-- what is asked for of objects and directories
+abbrev IsAskedOutside : Asked → Type 0
+IsAskedOutside (asked.Rows request) = IsOutside request.doing
+IsAskedOutside (asked.Jobs request) = Unit {0}
+
+late_outside : (late : Option ErrorCode) (wish : Wish) (asks : Wanted) → IsWantedOutside asks → IsAskedOutside (asked_late wish (unless late asks))
+late_outside None wish (wanted.Rows asks) out = out
+late_outside None wish (wanted.Jobs asks) out = tt
+late_outside (Some code) wish asks out = tt
+
+by_early : (early : Option Refused) (late : Option ErrorCode) (wish : Wish) (asks : Wanted) → IsWantedOutside asks → IsAskedOutside (asked_by early wish (unless late asks))
+by_early (Some refused) late wish asks out = tt
+by_early None late wish asks out = late_outside late wish asks out
+
+by_path : (p : Result AccountPath ErrorCode) (login : List ℕ) (head : Head) → IsAskedOutside (asked_at p login head)
 by_path (Ok p) login head =
-    at_area (target.is_jobs p.area) (method_refusal head.method) (option_map plain (target.origin_refusal head)) (wish_of head.fields) (late_of login head) (doing_of p login head)
-    (λ apart. by_method (bytes_eq head.method (codes "PUT")) (bytes_eq head.method (codes "DELETE")) p login head (same_area p.area apart))
+    by_early (early_at (route_of p) head) (late_at (route_of p) login head) (wish_of head.fields) (wanted_at (route_of p) p login head)
+    (by_route (route_of p) p login head (rows_outside p))
 by_path (Err code) login head = tt
+
+asked_outside : (login : List ℕ) (head : Head) → IsAskedOutside (asked_of login head)
+unfolding asked_of
+asked_outside login head = by_path (path_read login head.target) login head
+
+of_rows_outside : (a : Asked) → IsAskedOutside a → IsOutside (of_rows a).doing
+of_rows_outside (asked.Rows request) out = out
+of_rows_outside (asked.Jobs request) out = tt
 
 outside : (login : List ℕ) (head : Head) → IsOutside (request_of login head).doing
 unfolding request_of
-outside login head = by_path (path_read login head.target) login head
+outside login head = of_rows_outside (asked_of login head) (asked_outside login head)
 
 -- ---- what the account says
 

@@ -7,3 +7,10 @@ pub mod Allowed
 pub mod Listable
 pub mod Pages
 pub mod Told
+pub mod JobTests
+pub mod JobLists
+pub mod JobsRead
+pub mod JobsTold
+pub mod PostedFits
+pub mod JobSteps
+pub mod Agrees

@@ -25,14 +25,14 @@ page_lines rows page same = ap (flat_map line_of) same ∙ sym (lines rows)
 -- ---- rows of a page can be told
 
 module _ {X : Type 0} (P : X → Type 0) where
-  kept : (test : X → Bool) (xs : List X) → AllByRecursion P xs → AllByRecursion P (filter test xs)
+  pub kept : (test : X → Bool) (xs : List X) → AllByRecursion P xs → AllByRecursion P (filter test xs)
   kept test [] all = tt
   kept test (x ∷ xs) all = elim (test x) as (λ b. AllByRecursion P (cond b (x ∷ filter test xs) (filter test xs))) [
     | true ↦ (all.0, kept test xs all.1)
     | false ↦ kept test xs all.1
   ]
 
-  taken : (n : ℕ) (xs : List X) → AllByRecursion P xs → AllByRecursion P (take n xs)
+  pub taken : (n : ℕ) (xs : List X) → AllByRecursion P xs → AllByRecursion P (take n xs)
   taken zero xs all = tt
   taken (suc n) [] all = tt
   taken (suc n) (x ∷ xs) all = (all.0, taken n xs all.1)
@@ -59,7 +59,7 @@ not_below : (k : ℕ) → k < 0 → ⊥
 not_below k below = omega (arith, below)
 
 -- by place
-by_place : {X : Type 0} (P : X → Type 0) (xs : List X) → AllByRecursion P xs → All P xs
+pub by_place : {X : Type 0} (P : X → Type 0) (xs : List X) → AllByRecursion P xs → All P xs
 by_place P [] all k d below = absurd (not_below k below)
 by_place P (x ∷ xs) all zero d below = all.0
 by_place P (x ∷ xs) all (suc k) d below = by_place P xs all.1 k d (omega (arith, below))

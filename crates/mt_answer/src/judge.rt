@@ -99,8 +99,8 @@ fn look_refusal(
     }
 }
 
-// Why the limit of a page is none, where it is looked at.
-fn limit_refusal(is_object: bool, page: &Option<Page>) -> Option<Refused>
+/// Why the limit of a page is none, where it is looked at.
+pub(crate) fn limit_refusal(is_object: bool, page: &Option<Page>) -> Option<Refused>
     ensures { result ≡ limit_refusal is_object page.now }
 {
     match page {
@@ -162,8 +162,8 @@ fn refused_as(error: StoreError) -> Refused
     }
 }
 
-// The error that tells of a refusal of the account.
-fn code_of(refusal: Refusal) -> ErrorCode
+/// The error that tells of a refusal of the account.
+pub(crate) fn code_of(refusal: Refusal) -> ErrorCode
     ensures { result ≡ code_of refusal }
 {
     match refusal {

@@ -9,3 +9,7 @@ pub line_plain : {B : Type 0} (size : B → ℕ) (name : List ℕ) (e : Entry B)
 unfolding directory_data object_data
 line_plain size name (entry.Directory mtime) = refl
 line_plain size name (entry.Object o) = refl
+
+pub directory_plain : (name : List ℕ) (mtime : ℕ) → has_float (directory_data name mtime) ≡ false
+unfolding directory_data
+directory_plain name mtime = refl

@@ -7,6 +7,8 @@ use Rattle.mt_ident.specs.Dates.{iso_time_text}
 use Rattle.mt_ident.specs.Identifiers.{identifier_text}
 use Rattle.mt_base.specs.declared.limits.TheConstants.{LAST_MOMENT}
 use Rattle.mt_model.specs.Listing.{name_of}
+use Rattle.mt_model.specs.Names.{job_name}
+use Rattle.mt_types.specs.declared.job.Job.{Job}
 use Rattle.mt_types.specs.declared.object.Entry.{Entry}
 use Rattle.mt_types.specs.declared.object.Entry.TheVariants as entry
 use Rattle.mt_types.specs.declared.object.Row.{Row}
@@ -44,3 +46,11 @@ module _ {B : Type 0} where
   -- the lines of rows, whose bodies have so many bytes each
   abbrev pub page_text : (B → ℕ) → List (Row B) → List ℕ
   page_text size rows = flat_map (row_line size) rows
+
+-- the line of a job's folder: its name, and the moment at which the job was made
+abbrev pub job_line : ℕ → ℕ → List ℕ
+job_line job created = compact_text (directory_data (job_name job) created) ++ 10 ∷ []
+
+-- the lines of the folders of jobs
+abbrev pub jobs_text : {B : Type 0} → List (Job B) → List ℕ
+jobs_text jobs = flat_map (λ j. job_line j.number j.created) jobs

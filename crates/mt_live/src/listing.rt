@@ -2,7 +2,7 @@
 ghost use Rattle.std.specs.Prelude.{◌≡◌, ◌<◌, ◌≤◌, ◌^◌, ◌++◌, IfOk};
 ghost use Rattle.serde_json.specs.View.{view};
 ghost use Rattle.serde_json.specs.Written.{compact_text};
-ghost use Rattle.mt_live.specs.LiveTexts.{IsEntryListable, directory_data, line_data, object_data, page_line};
+ghost use Rattle.mt_live.specs.LiveTexts.{IsEntryListable, directory_data, job_line, line_data, object_data, page_line};
 
 use mt_base::{LAST_MOMENT, Text, ascii};
 use mt_ident::{iso_time, uuid_text};
@@ -21,6 +21,19 @@ pub fn page_line(alloc: Global, name: &str, entry: &Entry<Body>) -> Result<Text,
     let mut line = value.to_string(alloc)?;
     line.push_str("\n")?;
     Ok(Text::from_string(line))
+}
+
+/// The line of a job's folder, by the number of the job and the moment at which it was made, as the page of all jobs has it.
+pub fn job_line(alloc: Global, job: u64, created: u64) -> Result<Text, AllocError>
+    requires number { job < 2 ^ 62 }
+    requires created { created ≤ LAST_MOMENT }
+    ensures { IfOk result (λ line. line ≡ job_line job created) }
+{
+    let name = uuid_text(2, job);
+    let value = directory_value(alloc, ascii(&name), created)?;
+    let mut text = value.to_string(alloc)?;
+    text.push_str("\n")?;
+    Ok(Text::from_string(text))
 }
 
 // A child of a directory as a value.

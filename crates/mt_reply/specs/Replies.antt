@@ -1,5 +1,6 @@
 -- The replies of the store.
 use Rattle.std.specs.Prelude.{ℕ, List, [], ◌∷◌, ◌++◌, codes}
+use Rattle.mt_types.specs.declared.live.LiveText.{LiveText}
 use Rattle.mt_types.specs.declared.object.Field.{Field}
 use Rattle.mt_types.specs.declared.object.Object.{Object}
 use Rattle.mt_types.specs.declared.reply.Reply.{Reply}
@@ -8,7 +9,7 @@ use Rattle.mt_types.specs.declared.reply.ReplyBody.TheVariants.{Held, Part}
 use Rattle.mt_error.specs.ErrorTable.{error_body, status_of_error}
 use Rattle.mt_error.specs.declared.refused.Refused.{Refused}
 use Rattle.mt_reply.specs.declared.stamp.Stamp.{Stamp}
-use Rattle.mt_reply.specs.ReplyFields.{digest_field, etag_field, field, modified_field, more_fields, number_field, object_fields, part_field, stamp_fields, stored_fields}
+use Rattle.mt_reply.specs.ReplyFields.{digest_field, etag_field, field, live_fields, modified_field, more_fields, number_field, object_fields, part_field, stamp_fields, stored_fields}
 
 -- a page of a directory
 abbrev pub page_type : List ℕ
@@ -42,6 +43,18 @@ module _ {B : Type 0} where
   -- to a GET of a directory: how many children it has, and the text of a page of them
   abbrev pub page_reply : Stamp → ℕ → List ℕ → Reply B
   page_reply stamp count text = reply_of 200 stamp (field (codes "content-type") page_type ∷ number_field (codes "result-set-size") count ∷ []) (Held text)
+
+  -- to a POST that made a job, which is at this path
+  abbrev pub made_reply : Stamp → List ℕ → Reply B
+  made_reply stamp location = reply_of 201 stamp (field (codes "location") location ∷ []) (Held [])
+
+  -- to what a job is asked to do by and by: to end its input, to be done
+  abbrev pub taken_reply : Stamp → Reply B
+  taken_reply stamp = reply_of 202 stamp [] (Held [])
+
+  -- to a GET of a text of a job, which has so many lines
+  abbrev pub live_reply : Stamp → LiveText → ℕ → List ℕ → Reply B
+  live_reply stamp text count body = reply_of 200 stamp (live_fields text count) (Held body)
 
   -- to a request that is refused
   abbrev pub error_reply : Stamp → Refused → Reply B

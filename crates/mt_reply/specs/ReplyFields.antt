@@ -4,6 +4,8 @@ use Rattle.std.specs.Prelude.{ℕ, ◌-◌, List, [], ◌∷◌, ◌++◌, codes
 use Rattle.mt_ident.specs.Identifiers.{identifier_text}
 use Rattle.mt_ident.specs.Digests.{digest_text}
 use Rattle.mt_ident.specs.Dates.{http_date_text}
+use Rattle.mt_types.specs.declared.live.LiveText.{LiveText}
+use Rattle.mt_types.specs.declared.live.LiveText.TheVariants as live
 use Rattle.mt_types.specs.declared.object.Field.{Field}
 use Rattle.mt_types.specs.declared.object.Object.{Object}
 use Rattle.mt_error.specs.Refusals.{allowed_text}
@@ -67,3 +69,25 @@ abbrev pub more_fields : More → List Field
 more_fields Nothing = []
 more_fields (Allow methods) = field (codes "allow") (allowed_text methods) ∷ []
 more_fields (Size size) = no_part_field size ∷ []
+
+-- the content type of a text of a job
+abbrev pub live_type : LiveText → List ℕ
+live_type live.In = codes "text/plain"
+live_type live.Out = codes "text/plain"
+live_type live.Fail = codes "text/plain"
+live_type live.Err = codes "application/x-json-stream"
+live_type live.Tasks = codes "application/x-json-stream"
+live_type live.Status = codes "application/json"
+
+-- how many lines a text of a job has; the status is one value
+abbrev pub count_fields : LiveText → ℕ → List Field
+count_fields live.In count = number_field (codes "result-set-size") count ∷ []
+count_fields live.Out count = number_field (codes "result-set-size") count ∷ []
+count_fields live.Fail count = number_field (codes "result-set-size") count ∷ []
+count_fields live.Err count = number_field (codes "result-set-size") count ∷ []
+count_fields live.Tasks count = number_field (codes "result-set-size") count ∷ []
+count_fields live.Status count = []
+
+-- what is said of a text of a job
+abbrev pub live_fields : LiveText → ℕ → List Field
+live_fields text count = field (codes "content-type") (live_type text) ∷ count_fields text count

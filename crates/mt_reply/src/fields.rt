@@ -8,7 +8,7 @@ use mt_base::{Bytes, Duplicate, LAST_MOMENT, Text};
 use mt_bytes::put_decimal;
 use mt_error::More;
 use mt_ident::{http_date, md5_text, uuid_text};
-use mt_types::{Field, Object};
+use mt_types::{Field, LiveText, Object};
 use std::alloc::{AllocError, Global};
 
 /// A field.
@@ -148,4 +148,30 @@ pub fn add_more(fields: &mut Vec<Field>, alloc: Global, more: More) -> Result<()
         More::Size(size) => fields.push(no_part_field(alloc, size)?)?,
     }
     Ok(())
+}
+
+// The content type of a text of a job.
+fn live_type(text: LiveText) -> &'static str
+    ensures { result.now ≡ words.live_type text }
+{
+    match text {
+        LiveText::In | LiveText::Out | LiveText::Fail => "text/plain",
+        LiveText::Err | LiveText::Tasks => "application/x-json-stream",
+        LiveText::Status => "application/json",
+    }
+}
+
+/// What is said of a text of a job, which has so many lines.
+pub fn live_fields(alloc: Global, text: LiveText, count: u64) -> Result<Vec<Field>, AllocError>
+    ensures { IfOk result (λ fields. fields.items ≡ words.live_fields text count) }
+{
+    let mut fields = Vec::new(alloc);
+    fields.push(field(alloc, "content-type", live_type(text).as_bytes())?)?;
+    match text {
+        LiveText::Status => {}
+        LiveText::In | LiveText::Out | LiveText::Fail | LiveText::Err | LiveText::Tasks => {
+            fields.push(number_field(alloc, "result-set-size", count)?)?
+        }
+    }
+    Ok(fields)
 }

@@ -10,6 +10,7 @@ mod replies;
 mod stamp;
 
 pub use replies::{
-    done_reply, error_reply, object_reply, page_reply, part_reply, stored_reply, unchanged_reply,
+    done_reply, error_reply, live_reply, made_reply, object_reply, page_reply, part_reply,
+    stored_reply, taken_reply, unchanged_reply,
 };
 pub use stamp::Stamp;

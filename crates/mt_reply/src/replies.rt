@@ -3,13 +3,13 @@ ghost use Rattle.std.specs.Prelude.{◌≡◌, ◌≤◌, ◌<◌, ◌^◌, [], 
 ghost use Rattle.mt_reply.specs.Replies as words;
 
 use crate::fields::{
-    add_more, add_object, add_stamp, digest_field, etag_field, field, modified_field, number_field,
-    part_field,
+    add_more, add_object, add_stamp, digest_field, etag_field, field, live_fields, modified_field,
+    number_field, part_field,
 };
 use crate::stamp::Stamp;
 use mt_base::{Bytes, Duplicate, LAST_MOMENT, Sequence};
 use mt_error::Refused;
-use mt_types::{Field, Object, Reply, ReplyBody};
+use mt_types::{Field, LiveText, Object, Reply, ReplyBody};
 use std::alloc::{AllocError, Global};
 
 /// The type of a page of a directory.
@@ -151,6 +151,43 @@ pub fn page_reply<B: Drop>(
     fields.push(field(alloc, "content-type", PAGE_TYPE)?)?;
     fields.push(number_field(alloc, "result-set-size", count)?)?;
     reply_of(alloc, 200, stamp, fields, ReplyBody::Held(text))
+}
+
+/// The reply to a POST that made a job, which is at this path (201; RFC 9110, section 15.3.2).
+pub fn made_reply<B: Drop>(
+    alloc: Global,
+    stamp: Stamp,
+    location: &[u8],
+) -> Result<Reply<B>, AllocError>
+    requires { stamp.moment ≤ LAST_MOMENT }
+    ensures { IfOk result (λ reply. reply ≡ words.made_reply stamp location.now) }
+{
+    let mut fields = Vec::new(alloc);
+    fields.push(field(alloc, "location", location)?)?;
+    reply_of(alloc, 201, stamp, fields, nothing(alloc))
+}
+
+/// The reply to what a job is asked to do by and by: to end its input, to be done (202).
+pub fn taken_reply<B: Drop>(alloc: Global, stamp: Stamp) -> Result<Reply<B>, AllocError>
+    requires { stamp.moment ≤ LAST_MOMENT }
+    ensures { IfOk result (λ reply. reply ≡ words.taken_reply stamp) }
+{
+    reply_of(alloc, 202, stamp, Vec::new(alloc), nothing(alloc))
+}
+
+/// The reply to a GET of a text of a job: how many lines it has, but of the status, and the text (200).
+pub fn live_reply<B: Drop>(
+    alloc: Global,
+    stamp: Stamp,
+    text: LiveText,
+    count: u64,
+    body: Bytes,
+) -> Result<Reply<B>, AllocError>
+    requires { stamp.moment ≤ LAST_MOMENT }
+    ensures { IfOk result (λ reply. reply ≡ words.live_reply stamp text count body) }
+{
+    let fields = live_fields(alloc, text, count)?;
+    reply_of(alloc, 200, stamp, fields, ReplyBody::Held(body))
 }
 
 /// The reply to a request that is refused: its code and words as a JSON object, with `allow` of a 405 and

@@ -1,6 +1,6 @@
 -- What is asked to be put is within the limits of a put: few fields of metadata, each fine, by name; a type and a level.
 use Rattle.std.proofs.Common.{◌≡◌, ℕ, ◌+◌, ◌≤◌, Bool, true, false, cond, List, [], ◌∷◌, length, Option, Some, None, Result, Ok, Err, refl, ap, arith}
-use Rattle.std.specs.Prelude.{not, ◌&&◌, nat_le, IsTrue, IfOk, IfSome, codes, bytes_eq, filter, fold, option_and_then, if◌then◌else◌}
+use Rattle.std.specs.Prelude.{not, ◌&&◌, nat_le, IsTrue, IfSome, codes, bytes_eq, filter, fold, option_and_then, if◌then◌else◌}
 use Rattle.std.specs.Cmp.Lexicographic.{nat_list_cmp_total, slice_cmp}
 use Rattle.std.specs.List.{AllByRecursion, list_all}
 use Rattle.std.specs.Ordering.{is_gt, is_lt, nat_cmp, ordering_reverse}
@@ -19,18 +19,27 @@ use Rattle.mt_types.specs.Limits.{FitsField, is_by_name, is_content_type, is_dur
 use Rattle.mt_types.specs.declared.object.Field.{Field}
 use Rattle.mt_request.specs.Digest.{wish_of}
 use Rattle.mt_request.specs.Kind.{type_of}
-use Rattle.mt_request.specs.Laws.{FitsDoing}
+use Rattle.mt_request.specs.Laws.{FitsAsked, FitsDoing}
 use Rattle.mt_request.specs.Metadata.{is_metadata_field, is_metadata_fine, is_none, level_in, level_of, metadata_of}
 use Rattle.mt_request.specs.Order.{first_of, refuse_if}
 use Rattle.mt_request.specs.Puts.{doing_by, kind_in, late_by, link_doing, link_to, object_doing, object_late, unless}
-use Rattle.mt_request.specs.Query.{page_of, query_of}
-use Rattle.mt_request.specs.Requests.{asked_at, doing_of, late_of, range_of_head, request_by, request_of}
-use Rattle.mt_request.specs.Target.{early_of, path_read}
+use Rattle.mt_request.specs.Query.{query_of, stand_in}
+use Rattle.mt_request.specs.Requests.{asked_at, asked_by, asked_late, asked_of, is_post, late_at, listed, look_at, of_rows, request_of, wanted_at}
+use Rattle.mt_request.specs.Routes.{route_of}
+use Rattle.mt_request.specs.Target.{early_at, path_read}
+use Rattle.mt_request.specs.declared.asked.Asked.{Asked}
+use Rattle.mt_request.specs.declared.asked.Asked.TheVariants as asked
+use Rattle.mt_request.specs.declared.asked.Wanted.{Wanted}
+use Rattle.mt_request.specs.declared.asked.Wanted.TheVariants as wanted
 use Rattle.mt_request.specs.declared.digest.Wish.{Wish}
+use Rattle.mt_request.specs.declared.jobs.JobDoing.TheVariants as jobs
 use Rattle.mt_request.specs.declared.kind.Kind.{Kind}
 use Rattle.mt_request.specs.declared.kind.Kind.TheVariants as kind
-use Rattle.mt_request.specs.declared.request.Doing.{Doing}
 use Rattle.mt_request.specs.declared.request.Doing.TheVariants as doing
+use Rattle.mt_request.specs.declared.route.Route.{Route}
+use Rattle.mt_request.specs.declared.route.Route.TheVariants as route
+use Rattle.mt_types.specs.declared.live.JobStand.{JobStand}
+use Rattle.mt_types.specs.declared.live.LiveText.TheVariants as live
 
 -- ---- fields, placed by name
 
@@ -175,32 +184,68 @@ put_fits kind.Object p login fields within none = object_fits p fields within no
 put_fits kind.Directory p login fields within none = tt
 put_fits kind.Link p login fields within none = link_fits p login (first_value (codes "location") fields)
 
-other_fits : (b : Bool) (p : AccountPath) (head : Head) → FitsDoing (cond b (doing.Remove p) (doing.Look p (page_of (query_of head.target)) (range_of_head head)))
+other_fits : (b : Bool) (p : AccountPath) (head : Head) → FitsDoing (cond b (doing.Remove p) (look_at p head))
 other_fits true p head = tt
 other_fits false p head = tt
 
 method_fits : (b d : Bool) (p : AccountPath) (login : List ℕ) (head : Head) → length head.fields ≤ 100
     → cond b (late_by (kind_in head.fields) login head.fields) None ≡ None
-    → FitsDoing (cond b (doing_by (kind_in head.fields) p login head.fields) (cond d (doing.Remove p) (doing.Look p (page_of (query_of head.target)) (range_of_head head))))
+    → FitsDoing (cond b (doing_by (kind_in head.fields) p login head.fields) (cond d (doing.Remove p) (look_at p head)))
 method_fits true d p login head within none = put_fits (kind_in head.fields) p login head.fields within none
 method_fits false d p login head within none = other_fits d p head
 
-unless_fits : (late : Option ErrorCode) (asked : Doing) → (late ≡ None → FitsDoing asked) → IfOk (unless late asked) FitsDoing
-unless_fits None asked fits = fits refl
-unless_fits (Some code) asked fits = tt
+-- what is to be done with objects and directories is within limits
+abbrev FitsWanted : Wanted → Type 0
+FitsWanted (wanted.Rows asks) = FitsDoing asks
+FitsWanted (wanted.Jobs asks) = Unit {0}
 
-asked_fits : (p : Result AccountPath ErrorCode) (login : List ℕ) (head : Head) → length head.fields ≤ 100 → IfOk (asked_at p login head) FitsDoing
-asked_fits (Ok p) login head within =
-    unless_fits (late_of login head) (doing_of p login head)
-    (λ none. method_fits (bytes_eq head.method (codes "PUT")) (bytes_eq head.method (codes "DELETE")) p login head within none)
-asked_fits (Err code) login head within = tt
+listed_fits : (stand : Option (Option JobStand)) (p : AccountPath) (head : Head) → FitsWanted (listed stand p head)
+listed_fits (Some (Some stand)) p head = tt
+listed_fits (Some None) p head = tt
+listed_fits None p head = tt
 
-request_fits : (early : Option Refused) (wish : Wish) (asked : Result Doing ErrorCode) → IfOk asked FitsDoing → FitsDoing (request_by early wish asked).doing
-request_fits (Some refused) wish asked fits = tt
-request_fits None wish (Ok asked) fits = fits
-request_fits None wish (Err code) fits = tt
+jobs_fits : (b : Bool) (p : AccountPath) (head : Head) → FitsWanted (cond b (wanted.Jobs jobs.MakeJob) (listed (stand_in (query_of head.target)) p head))
+jobs_fits true p head = tt
+jobs_fits false p head = listed_fits (stand_in (query_of head.target)) p head
+
+input_fits : (b : Bool) (job : Option ℕ) → FitsWanted (cond b (wanted.Jobs (jobs.PostLines job)) (wanted.Jobs (jobs.LookLive job live.In)))
+input_fits true job = tt
+input_fits false job = tt
+
+wanted_fits : (r : Route) (p : AccountPath) (login : List ℕ) (head : Head) → length head.fields ≤ 100 → late_at r login head ≡ None → FitsWanted (wanted_at r p login head)
+wanted_fits route.Rows p login head within none =
+    method_fits (bytes_eq head.method (codes "PUT")) (bytes_eq head.method (codes "DELETE")) p login head within none
+wanted_fits route.Jobs p login head within none = jobs_fits (is_post head) p head
+wanted_fits route.JobRow p login head within none = tt
+wanted_fits (route.Live job text) p login head within none = tt
+wanted_fits (route.Input job) p login head within none = input_fits (is_post head) job
+wanted_fits (route.InputEnd job) p login head within none = tt
+wanted_fits (route.Cancel job) p login head within none = tt
+wanted_fits route.Nowhere p login head within none = tt
+
+late_fits : (late : Option ErrorCode) (wish : Wish) (asks : Wanted) → (late ≡ None → FitsWanted asks) → FitsAsked (asked_late wish (unless late asks))
+late_fits None wish (wanted.Rows asks) fits = fits refl
+late_fits None wish (wanted.Jobs asks) fits = tt
+late_fits (Some code) wish asks fits = tt
+
+by_fits : (early : Option Refused) (late : Option ErrorCode) (wish : Wish) (asks : Wanted) → (late ≡ None → FitsWanted asks) → FitsAsked (asked_by early wish (unless late asks))
+by_fits (Some refused) late wish asks fits = tt
+by_fits None late wish asks fits = late_fits late wish asks fits
+
+at_fits : (p : Result AccountPath ErrorCode) (login : List ℕ) (head : Head) → length head.fields ≤ 100 → FitsAsked (asked_at p login head)
+at_fits (Ok p) login head within =
+    by_fits (early_at (route_of p) head) (late_at (route_of p) login head) (wish_of head.fields) (wanted_at (route_of p) p login head)
+    (λ none. wanted_fits (route_of p) p login head within none)
+at_fits (Err code) login head within = tt
+
+pub asked_within : (login : List ℕ) (head : Head) → length head.fields ≤ 100 → FitsAsked (asked_of login head)
+unfolding asked_of
+asked_within login head within = at_fits (path_read login head.target) login head within
+
+of_rows_fits : (a : Asked) → FitsAsked a → FitsDoing (of_rows a).doing
+of_rows_fits (asked.Rows request) fits = fits
+of_rows_fits (asked.Jobs request) fits = tt
 
 pub within_limits : (login : List ℕ) (head : Head) → length head.fields ≤ 100 → FitsDoing (request_of login head).doing
 unfolding request_of
-within_limits login head within =
-    request_fits (early_of login head) (wish_of head.fields) (asked_at (path_read login head.target) login head) (asked_fits (path_read login head.target) login head within)
+within_limits login head within = of_rows_fits (asked_of login head) (asked_within login head within)

@@ -4,13 +4,15 @@ use Rattle.mt_http.specs.declared.message.Head.{Head}
 use Rattle.mt_ident.specs.Digests.{IsDigest, digest_text}
 use Rattle.mt_types.specs.Limits.{FitsMetadata, is_content_type, is_durability}
 use Rattle.mt_request.specs.Digest.{digest_read}
-use Rattle.mt_request.specs.Requests.{head_refusal, refusal_of_head, request_of}
+use Rattle.mt_request.specs.Requests.{asked_of, asked_refusal, refusal_of_head, request_of}
+use Rattle.mt_request.specs.declared.asked.Asked.{Asked}
+use Rattle.mt_request.specs.declared.asked.Asked.TheVariants as asked
 use Rattle.mt_request.specs.declared.request.Doing.{Doing}
 use Rattle.mt_request.specs.declared.request.Doing.TheVariants as doing
 
 -- the first refusal of what a head asks for is the first of the head
 abbrev pub RefusesInOrder : Type 0
-RefusesInOrder = (login : List ℕ) (head : Head) (digest : Option (List ℕ)) → head_refusal (request_of login head) digest ≡ refusal_of_head login head digest
+RefusesInOrder = (login : List ℕ) (head : Head) (digest : Option (List ℕ)) → asked_refusal (asked_of login head) digest ≡ refusal_of_head login head digest
 
 -- a digest is read from its text and from no other
 abbrev pub ReadsDigests : Type 0
@@ -29,3 +31,11 @@ FitsDoing (doing.Look path page range) = ⊤
 -- what a head with at most 100 fields asks for
 abbrev pub AsksWithinLimits : Type 0
 AsksWithinLimits = (login : List ℕ) (head : Head) → length head.fields ≤ 100 → FitsDoing (request_of login head).doing
+
+abbrev pub FitsAsked : Asked → Type 0
+FitsAsked (asked.Rows request) = FitsDoing request.doing
+FitsAsked (asked.Jobs request) = ⊤
+
+-- the same of objects and directories or of jobs
+abbrev pub AskedWithinLimits : Type 0
+AskedWithinLimits = (login : List ℕ) (head : Head) → length head.fields ≤ 100 → FitsAsked (asked_of login head)

@@ -6,4 +6,5 @@ pub mod Order
 pub mod Puts
 pub mod Query
 pub mod Requests
+pub mod Routes
 pub mod Target

@@ -17,7 +17,7 @@ use Rattle.mt_request.specs.declared.request.Doing.{Doing}
 use Rattle.mt_request.specs.declared.request.Doing.TheVariants as doing
 
 -- what is asked for, unless it is refused
-abbrev pub unless : Option ErrorCode → Doing → Result Doing ErrorCode
+abbrev pub unless : {A : Type 0} → Option ErrorCode → A → Result A ErrorCode
 unless None asked = Ok asked
 unless (Some code) asked = Err code
 

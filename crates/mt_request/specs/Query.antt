@@ -5,6 +5,8 @@ use Rattle.form_urlencoded.specs.Form.{raw_pairs, decode}
 use Rattle.mt_bytes.specs.Decimals.{decimal_number}
 use Rattle.mt_path.specs.Names.{question_mark}
 use Rattle.mt_request.specs.declared.query.Page.{Page}
+use Rattle.mt_types.specs.declared.live.JobStand.{JobStand}
+use Rattle.mt_types.specs.declared.live.JobStand.TheVariants.{Running, Done}
 
 -- what stands behind this place; nothing where there is none
 abbrev pub behind : List ℕ → Option ℕ → List ℕ
@@ -40,3 +42,15 @@ marker_in (Some text) = text
 -- the page that a query asks for; none where its limit is none
 unfoldable pub page_of : List ℕ → Option Page
 page_of query = option_map (λ limit. record { marker = marker_in (first_pair (codes "marker") query); limit = limit }) (limit_in (first_pair (codes "limit") query))
+
+-- how jobs are to stand, by its name
+abbrev pub stand_named : List ℕ → Option JobStand
+stand_named text = if bytes_eq text (codes "running") then Some Running else (if bytes_eq text (codes "done") then Some Done else None)
+
+abbrev pub stand_said : Option (List ℕ) → Option (Option JobStand)
+stand_said None = Some None
+stand_said (Some text) = option_map Some (stand_named text)
+
+-- how the jobs are to stand that a query asks for: no matter how where it isn't said; none where what is said is neither
+unfoldable pub stand_in : List ℕ → Option (Option JobStand)
+stand_in query = stand_said (first_pair (codes "state") query)

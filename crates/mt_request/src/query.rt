@@ -1,11 +1,12 @@
 //! The query of a request target.
 ghost use Rattle.std.specs.Prelude.{◌≡◌, IfOk};
 ghost use Rattle.std.specs.Option.{option_copied};
-ghost use Rattle.mt_request.specs.Query.{first_pair, limit_in, page_of, query_of};
+ghost use Rattle.mt_request.specs.Query.{first_pair, limit_in, page_of, query_of, stand_in, stand_named};
 
 use mt_base::{Bytes, Text};
 use mt_bytes::read_decimal;
 use mt_path::query_at;
+use mt_types::JobStand;
 use std::alloc::{AllocError, Global};
 
 /// A page has at most so many rows.
@@ -73,4 +74,32 @@ pub fn page_of(alloc: Global, query: &[u8]) -> Result<Option<Page>, AllocError>
         None => Bytes::from_vec(Vec::new(alloc)),
     };
     Ok(Some(Page { marker, limit }))
+}
+
+// How jobs are to stand, by its name.
+fn stand_named(text: &str) -> Option<JobStand>
+    ensures { result ≡ stand_named text.now }
+{
+    if text == "running" {
+        return Some(JobStand::Running);
+    }
+    if text == "done" {
+        return Some(JobStand::Done);
+    }
+    None
+}
+
+/// How the jobs are to stand that a query asks for: no matter how where it isn't said; `None` where what is said is neither `running`
+/// nor `done`.
+#[tactic(auto, unfolding(crate::specs::Query::stand_in))]
+pub fn stand_in(alloc: Global, query: &[u8]) -> Result<Option<Option<JobStand>>, AllocError>
+    ensures { IfOk result (λ stand. stand ≡ stand_in query.now) }
+{
+    match first_pair(alloc, "state", query)? {
+        None => Ok(Some(None)),
+        Some(text) => match stand_named(text.as_str()) {
+            Some(stand) => Ok(Some(Some(stand))),
+            None => Ok(None),
+        },
+    }
 }

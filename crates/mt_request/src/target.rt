@@ -1,10 +1,11 @@
 //! The path of a request, and the refusals that stand before the digest of its body.
 ghost use Rattle.std.specs.Prelude.{◌≡◌, IfOk};
-ghost use Rattle.mt_request.specs.Target.{early_at, error_of_path, is_jobs, is_method, is_of_page, is_reading, method_refusal, path_read};
+ghost use Rattle.mt_request.specs.Target.{early_at, error_of_path, has_method, is_of_page, is_reading, path_read, route_refusal};
 
+use crate::route::{Route, methods_at};
 use mt_error::{ErrorCode, Methods, Refused};
 use mt_http::Head;
-use mt_path::{Area, Path, PathError};
+use mt_path::{Path, PathError};
 use mt_types::has_field;
 use std::alloc::{AllocError, Global};
 
@@ -37,36 +38,38 @@ pub fn read_path(
     }
 }
 
-fn is_jobs(area: Area) -> bool
-    ensures { result ≡ is_jobs area }
-{
-    match area {
-        Area::Jobs => true,
-        Area::Stor => false,
-        Area::Public => false,
-    }
-}
-
-fn is_method(name: &str) -> bool
-    ensures { result ≡ is_method name.now }
-{
-    name == "DELETE" || name == "GET" || name == "HEAD" || name == "PUT"
-}
-
-fn method_refusal(name: &str) -> Option<Refused>
-    ensures { result ≡ method_refusal name.now }
-{
-    if is_method(name) {
-        None
-    } else {
-        Some(Refused::not_allowed(Methods::Rows))
-    }
-}
-
 fn is_reading(name: &str) -> bool
     ensures { result ≡ is_reading name.now }
 {
     name == "GET" || name == "HEAD"
+}
+
+fn has_method(methods: Methods, name: &str) -> bool
+    ensures { result ≡ has_method methods name.now }
+{
+    match methods {
+        Methods::Rows => name == "DELETE" || is_reading(name) || name == "PUT",
+        Methods::Reads => is_reading(name),
+        Methods::ReadsAndPosts => is_reading(name) || name == "POST",
+        Methods::Posts => name == "POST",
+        Methods::Puts => name == "PUT",
+    }
+}
+
+// Why a request is refused by what its path is for and by its method.
+fn route_refusal(methods: Option<Methods>, name: &str) -> Option<Refused>
+    ensures { result ≡ route_refusal methods name.now }
+{
+    match methods {
+        None => Some(Refused::plain(ErrorCode::ResourceNotFound)),
+        Some(methods) => {
+            if has_method(methods, name) {
+                None
+            } else {
+                Some(Refused::not_allowed(methods))
+            }
+        }
+    }
 }
 
 // Whether a request comes from a page in a browser and would change something, or asks for a script that outlives its page.
@@ -78,14 +81,11 @@ fn is_of_page(head: &Head) -> bool
         || !is_reading(head.method.as_str()) && has_field(fields, "origin")
 }
 
-/// The first refusal behind that of the path: its area, the method, the pages of browsers.
-pub fn early_at(area: Area, head: &Head) -> Option<Refused>
-    ensures { result ≡ early_at area head.now }
+/// The first refusal of a path before the digest: what it is for, its methods, the pages of browsers.
+pub fn early_at(route: Route, head: &Head) -> Option<Refused>
+    ensures { result ≡ early_at route head.now }
 {
-    if is_jobs(area) {
-        return Some(Refused::plain(ErrorCode::NotBuilt));
-    }
-    if let Some(refused) = method_refusal(head.method.as_str()) {
+    if let Some(refused) = route_refusal(methods_at(route), head.method.as_str()) {
         return Some(refused);
     }
     if is_of_page(head) {

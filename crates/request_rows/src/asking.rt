@@ -5,7 +5,7 @@ use mt_error::{More, Refused};
 use mt_http::{Head, read_head};
 use mt_ident::md5_of;
 use mt_path::Path;
-use mt_request::{Doing, Page, Request, Wish, request_of};
+use mt_request::{Asked, Doing, JobDoing, Page, Request, Wish, asked_of};
 use mt_rows::{Row, Stop, put_escaped};
 use mt_types::Field;
 use std::alloc::{AllocError, Global};
@@ -21,25 +21,30 @@ pub fn answer(alloc: Global, row: &Row, out: &mut String) -> Result<(), Stop> {
 }
 
 fn put_asked(alloc: Global, row: &Row, out: &mut String) -> Result<(), Stop> {
-    let request = request_at(alloc, row, 1)?;
-    put_request(alloc, row.text(1)?, &request, out)
+    match asked_at(alloc, row, 1)? {
+        Asked::Rows(request) => put_request(alloc, row.text(1)?, &request, out),
+        Asked::Jobs(request) => {
+            put_wish(&request.wish, out)?;
+            put_job_doing(&request.doing, out)
+        }
+    }
 }
 
 fn put_refused_body(alloc: Global, row: &Row, out: &mut String) -> Result<(), Stop> {
     let digest = md5_of(row.bytes(1)?);
-    let request = request_at(alloc, row, 2)?;
-    put_refusal(request.refusal(Some(&digest)), out)
+    let asked = asked_at(alloc, row, 2)?;
+    put_refusal(asked.refusal(Some(&digest)), out)
 }
 
 fn put_refused_head(alloc: Global, row: &Row, out: &mut String) -> Result<(), Stop> {
-    let request = request_at(alloc, row, 1)?;
-    put_refusal(request.refusal(None), out)
+    let asked = asked_at(alloc, row, 1)?;
+    put_refusal(asked.refusal(None), out)
 }
 
-// The request of the login, the method, the target and the fields that stand from a place on.
-fn request_at(alloc: Global, row: &Row, place: usize) -> Result<Request, Stop> {
+// What is asked for by the login, the method, the target and the fields that stand from a place on.
+fn asked_at(alloc: Global, row: &Row, place: usize) -> Result<Asked, Stop> {
     let head = head_at(alloc, row, place.saturating_add(1))?;
-    Ok(request_of(alloc, row.text(place)?, &head)?)
+    Ok(asked_of(alloc, row.text(place)?, &head)?)
 }
 
 fn put_pieces(bytes: &mut Vec<u8>, pieces: &[&[u8]]) -> Result<(), AllocError> {
@@ -154,6 +159,31 @@ fn put_doing(alloc: Global, login: &str, doing: &Doing, out: &mut String) -> Res
                 write!(out, ", {range:?}")?;
             }
             Ok(())
+        }
+    }
+}
+
+fn put_job(word: &str, job: Option<u64>, out: &mut String) -> Result<(), Stop> {
+    out.push_str(word)?;
+    match job {
+        Some(number) => Ok(write!(out, " {number}")?),
+        None => Ok(out.push_str(" no job")?),
+    }
+}
+
+fn put_job_doing(doing: &JobDoing, out: &mut String) -> Result<(), Stop> {
+    match doing {
+        JobDoing::ListJobs { stand, page } => {
+            write!(out, "list {stand:?}")?;
+            put_page(page.as_ref(), out)
+        }
+        JobDoing::MakeJob => Ok(out.push_str("make a job")?),
+        JobDoing::PostLines { job } => put_job("add lines to", *job, out),
+        JobDoing::EndInput { job } => put_job("end the input of", *job, out),
+        JobDoing::CancelJob { job } => put_job("cancel", *job, out),
+        JobDoing::LookLive { job, text } => {
+            write!(out, "look {text:?} of")?;
+            put_job("", *job, out)
         }
     }
 }
