@@ -1,6 +1,6 @@
 #!/usr/bin/env python3
 """Prints the table of cert_rows with the wanted answers: lines are judged by Python's json, base64 and uuid, by the forms that API.md and the README of
-mt_certline list."""
+mt_certline list, and certificates by the rules that the README of mt_checker lists, over whole lists."""
 import base64
 import json
 import re
@@ -146,11 +146,18 @@ def form(value):
     return "task"
 
 
-def judged(data):
+def parsed(data):
+    """The form of a line and its value; none where it is no line."""
     try:
         value = json.loads(data.decode(), parse_int=number, parse_float=float, parse_constant=refuse)
-        name = form(value)
+        return form(value), value
     except (Refused, ValueError):
+        return None, None
+
+
+def judged(data):
+    name, value = parsed(data)
+    if name is None:
         return "no line"
     return f"{name} {escaped(json.dumps(value, sort_keys=True, separators=(',', ':'), ensure_ascii=False).encode())}"
 
@@ -160,6 +167,119 @@ def line(words):
     data = words.encode()
     call = "line-bytes " + escaped(data).replace(" ", "\\s") if "\\" in words else f"line {words}"
     row(call, judged(data))
+
+
+LONGEST_LINE = MOST_LINES = 16777216
+
+
+class Listed:
+    """A certificate so far."""
+
+    def __init__(self):
+        self.phases = None
+        self.inputs, self.tasks, self.outputs, self.over = [], [], [], False
+
+    def feed(self, phase):
+        if phase == 0:
+            return self.inputs
+        return [item for task in self.tasks if task["phase"] == phase - 1 for item in task["items"]]
+
+    def share(self, phase, place):
+        kind = self.phases[phase]
+        if kind["type"] == "map":
+            return [place]
+        return [at for at, item in enumerate(self.feed(phase)) if (at if item["reducer"] is None else item["reducer"]) % kind["count"] == place]
+
+    def places(self, phase):
+        kind = self.phases[phase]
+        return len(self.feed(phase)) if kind["type"] == "map" else kind["count"]
+
+    def open(self):
+        """The first phase with a place that is not listed."""
+        for phase in range(len(self.phases)):
+            listed = {task["place"] for task in self.tasks if task["phase"] == phase}
+            if any(place not in listed for place in range(self.places(phase))):
+                return phase
+        return None
+
+    def names(self):
+        return [item["name"] for item in self.feed(len(self.phases))]
+
+    def follows(self, task):
+        phase = self.open()
+        if phase is None or task["phase"] != phase or task["place"] >= self.places(phase):
+            return False
+        others = [other for other in self.tasks if other["phase"] == phase]
+        return (task["place"] not in [other["place"] for other in others]
+                and (not others or others[-1]["position"] < task["position"])
+                and task["reads"] == self.share(phase, task["place"]))
+
+    def take(self, name, value):
+        """Whether a line may stand there; if so it does."""
+        if self.over or (self.phases is None) != (name == "begin"):
+            return False
+        if name == "begin":
+            self.phases = value["phases"]
+        elif name == "input" and not self.tasks and not self.outputs:
+            self.inputs.append(value["input"])
+        elif name == "task" and not self.outputs and self.follows(value):
+            self.tasks.append(value)
+        elif name == "output" and self.open() is None and self.names()[len(self.outputs):][:1] == [value["output"]]:
+            self.outputs.append(value["output"])
+        elif name == "end" and self.open() is None and self.outputs == self.names():
+            self.over = True
+        else:
+            return False
+        return True
+
+
+def verdict(data):
+    """The status of a check, and what it writes."""
+    *whole, rest = data.split(b"\n")
+    listed, wrong = Listed(), None
+    for at, (text, ended) in enumerate([(t, True) for t in whole] + ([(rest, False)] if rest else []), 1):
+        wrong = at
+        if not ended or len(text) + 1 > LONGEST_LINE or at > MOST_LINES:
+            break
+        name, value = parsed(text)
+        if name is None or not listed.take(name, value):
+            break
+        wrong = at + 1
+    else:
+        if listed.over:
+            return "0 [accepted\\n]"
+    return f"15 [refused at {wrong or 1}\\n]"
+
+
+def put(texts):
+    """Puts lines, each with its line feed; their bytes."""
+    data = b""
+    for words in texts:
+        data += words.encode() + b"\n"
+        if "\\" in words:
+            row("bytes " + escaped(words.encode()).replace(" ", "\\s") + "\\n", len(data))
+        else:
+            row(f"put {words}", len(data))
+    return data
+
+
+def check(texts, behind=""):
+    """A certificate of these lines, with some text behind them."""
+    data = put(texts)
+    if behind:
+        data += behind.encode()
+        row("bytes " + behind.replace(" ", "\\s"), len(data))
+    row("check", verdict(data))
+
+
+def steps(texts):
+    """The same line by line."""
+    row("new", "started")
+    listed, refused = Listed(), False
+    for words in texts:
+        name, value = parsed(words.encode())
+        refused = refused or name is None or not listed.take(name, value)
+        row(f"step {words}", "refused" if refused else "accepted" if listed.over else "going")
 
 
 MD5 = "XUFAKrxLKna5cZ2REBfFkg=="
@@ -280,6 +400,182 @@ def main():
     row('line-bytes {"output":"/l/stor/\\xff"}', judged(b'{"output":"/l/stor/\xff"}'))
     row('line-bytes {"output":"/l/stor/\\xc3\\xa9"}', judged(b'{"output":"/l/stor/\xc3\xa9"}'))
     row('line-bytes \\xef\\xbb\\xbf{"end":true}', judged(b'\xef\xbb\xbf{"end":true}'))
+    checks()
+
+
+def an_input(name, **changes):
+    return f'{{"input":{an_item(name=f"/l/stor/{name}", root=name, **changes)}}}'
+
+
+def made_at(name, position, **changes):
+    """An output of the task that was committed there."""
+    return an_item(name=f"/l/jobs/{ID}/stor/{name}.0.00000003-0000-8000-8000-{position:09x}000", root=name, **changes)
+
+
+def an_output(made):
+    return f'{{"output":{json.dumps(json.loads(made)["name"])}}}'
+
+
+END = '{"end":true}'
+
+
+def map_job():
+    """The certificate of a map job over an object that was posted twice."""
+    made = made_at("a", 3), made_at("a", 5)
+    return [a_begin(f"[{MAP}]"), an_input("a"), an_input("a"),
+            a_task(f"[{made[0]}]"), a_task(f"[{made[1]}]", place="1", position="5", reads="[1]"),
+            an_output(made[0]), an_output(made[1]), END]
+
+
+def reduce_phase(count):
+    return f'{{"assets":[],"count":{count},"exec":"wc","type":"reduce"}}'
+
+
+def two_phases():
+    """The certificate of a map phase of three tasks and two reducers; an item that names none is read by its place."""
+    made = made_at("a", 5), made_at("b", 4, reducer=1), made_at("c", 9)
+    sums = made_at("reduce", 8), made_at("reduce", 11)
+    return [a_begin(f"[{MAP},{reduce_phase(2)}]"), an_input("a"), an_input("b"), an_input("c"),
+            a_task(f"[{made[1]}]", place="1", position="4", reads="[1]"),
+            a_task(f"[{made[0]}]", place="0", position="5", reads="[0]"),
+            a_task(f"[{made[2]}]", place="2", position="9", reads="[2]"),
+            a_task(f"[{sums[0]}]", phase="1", place="0", position="8", reads="[2]"),
+            a_task(f"[{sums[1]}]", phase="1", place="1", position="11", reads="[0,1]"),
+            an_output(sums[0]), an_output(sums[1]), END]
+
+
+def changed(texts, place, old, new):
+    """With another text in a line, counted from 1."""
+    assert old in texts[place - 1]
+    return texts[:place - 1] + [texts[place - 1].replace(old, new, 1)] + texts[place:]
+
+
+def without(texts, place):
+    return texts[:place - 1] + texts[place:]
+
+
+def exchanged(texts, place):
+    return texts[:place - 1] + [texts[place], texts[place - 1]] + texts[place + 1:]
+
+
+def doubled(texts, place):
+    return texts[:place] + texts[place - 1:]
+
+
+def checks():
+    job = map_job()
+    print("\n# The certificate of a map job is accepted; with lines exchanged, left out or twice it is not.")
+    check(job)
+    for at in range(1, 8):
+        check(exchanged(job, at))
+    for at in range(1, 9):
+        check(without(job, at))
+        check(doubled(job, at))
+
+    print("\n# Bytes behind the end, a last line without its line feed, and no line.")
+    check(job, behind="x")
+    check(job, behind=" ")
+    check(job + [""])
+    check(job + job)
+    check(job[:-1], behind=END)
+    check([])
+    check([], behind="x")
+    check([""])
+    check(job[:4])
+
+    print("\n# A place, a position and a phase.")
+    for new in ("2.0", "1e0", "-0", "2", "18446744073709551615"):
+        check(changed(job, 5, '"place":1', f'"place":{new}'))
+    check(changed(job, 5, '"place":1', '"place":0'))
+    for new in ("3", "2", "18446744073709551615"):
+        check(changed(job, 5, '"position":5', f'"position":{new}'))
+    for new in ("1", "4294967296"):
+        check(changed(job, 5, '"phase":0', f'"phase":{new}'))
+    for new in ("[]", "[0]", "[1,1]", "[0,1]", "[2]"):
+        check(changed(job, 5, '"reads":[1]', f'"reads":{new}'))
+
+    print("\n# The keys of a line, its names, roots and reducers.")
+    check(changed(job, 5, '{"items"', '{"more":1,"items"'))
+    check(changed(job, 5, ',"state":"ok"', ""))
+    check(changed(job, 5, '"place":1', '"place":0,"place":1'))
+    check(changed(job, 2, "/l/stor/a", "/l/stor/%61"))
+    check(changed(job, 2, "/l/stor/a", "/m/stor/a"))
+    check(changed(job, 2, '"root":"a"', f'"root":"{"r" * 201}"'))
+    check(changed(job, 2, '"reducer":null', '"reducer":4294967295'))
+    check(changed(job, 2, '"reducer":null', '"reducer":4294967296'))
+    check(changed(job, 1, '"cat"', '"wc"'))
+    check(changed(job, 2, MD5, "AAAAAAAAAAAAAAAAAAAAAA=="))
+
+    print("\n# A task that failed has no outputs, and its place counts as listed.")
+    check(changed(job, 5, '"ok"', '"failed"'))
+    failed = job[:4] + [a_task(place="1", position="4", reads="[1]", state='"failed"')] + job[5:]
+    check(failed)
+    check(without(failed, 7))
+    three = [job[0], an_input("a"), an_input("b"), an_input("c"), job[3], failed[4],
+             a_task(f"[{made_at('c', 7)}]", place="2", position="7", reads="[2]"), job[5], an_output(made_at("c", 7)), END]
+    check(three)
+    check(changed(three, 7, '"place":2', '"place":1'))
+
+    print("\n# Two phases: reducers read their shares, in order; positions rise within a phase.")
+    both = two_phases()
+    check(both)
+    for at in range(4, 12):
+        check(exchanged(both, at))
+    for at in range(1, 13):
+        check(without(both, at))
+    check(changed(both, 8, "[2]", "[0,2]"))
+    check(changed(both, 9, "[0,1]", "[1,0]"))
+    check(changed(both, 9, "[0,1]", "[1]"))
+    check(changed(both, 8, '"position":8', '"position":11'))
+    check(changed(both, 8, '"position":8', '"position":0'))
+    check(changed(both, 5, '"reducer":1', '"reducer":3'))
+    check(changed(both, 5, '"reducer":1', '"reducer":2'))
+    check(changed(both, 1, '"count":2', '"count":3'))
+
+    print("\n# Phases over nothing: a reducer reads no place, a map phase has no task.")
+    check([a_begin(f"[{reduce_phase(1)}]"), a_task(reads="[]", position="0"), END])
+    check([a_begin(f"[{reduce_phase(1)}]"), a_task(reads="[0]", position="0"), END])
+    check([a_begin(f"[{MAP}]"), END])
+    check([a_begin(f"[{MAP},{MAP}]"), END])
+    check([a_begin(f"[{MAP},{reduce_phase(2)},{MAP}]"), a_task(phase="1", place="1", reads="[]"), a_task(phase="1", position="4", reads="[]"), END])
+    check([a_begin(f"[{MAP},{reduce_phase(2)},{MAP}]"), a_task(phase="1", place="1", reads="[]"), END])
+    check([a_begin(f"[{MAP}]"), an_input("a"), END])
+    check([a_begin(f"[{MAP},{MAP}]"), an_input("a"), a_task(f"[{made_at('a', 3)},{made_at('b', 3)}]"),
+           a_task(phase="1", position="5"), a_task(f"[{made_at('b', 4)}]", phase="1", place="1", position="6", reads="[1]"), an_output(made_at("b", 4)), END])
+
+    print("\n# Line by line: behind a line that is accepted or refused each is refused.")
+    steps(job + [END, job[0]])
+    steps(changed(job, 5, '"place":1', '"place":0'))
+
+    print("\n# A read and a write that fail; the reads are of one byte each.")
+    data = put(job)
+    row("check read 0", "3 []")
+    put(job)
+    row(f"check read {len(data) - 1}", "3 []")
+    put(job)
+    row(f"check read {len(data)}", "3 []")
+    put(job)
+    row(f"check read {len(data) + 1}", verdict(data))
+    wrong = put([END])
+    row(f"check read {len(wrong) - 1}", "3 []")
+    put([END])
+    row(f"check read {len(wrong)}", verdict(wrong))
+    put(job)
+    row("check write 0", "4 []")
+
+    print("\n# A line of 16,777,216 bytes, and a longer one.")
+    room = LONGEST_LINE - len(job[1]) - 1
+    for blanks in (room, room + 1):
+        long = job[1].replace('"input"', " " * blanks + '"input"', 1)
+        data = put(job[:1])
+        row("bytes {", len(data) + 1)
+        row(f"many {blanks} \\s", len(data) + 1 + blanks)
+        row("bytes " + job[1][1:] + "\\n", len(data) + blanks + len(job[1]) + 1)
+        whole = b"".join(t.encode() + b"\n" for t in job[:1] + [long])
+        for t in job[2:]:
+            whole += t.encode() + b"\n"
+            row(f"put {t}", len(whole))
+        row("check", verdict(whole))
 
 
 main()

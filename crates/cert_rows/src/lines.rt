@@ -8,14 +8,6 @@ use std::alloc::Global;
 /// Whose names they are.
 const LOGIN: &str = "l";
 
-// What stands behind the first word of a line, as it stands.
-fn behind(line: &str) -> &str {
-    match line.split_once(' ') {
-        Some((_call, rest)) => rest,
-        None => "",
-    }
-}
-
 // The form of a line.
 fn form(line: &Line) -> &'static str {
     match line {
@@ -47,10 +39,10 @@ fn put_read(alloc: Global, bytes: &[u8], out: &mut String) -> Result<(), Stop> {
     }
 }
 
-/// The answer to a row of this crate.
-pub fn answer(alloc: Global, line: &str, row: &Row, out: &mut String) -> Result<(), Stop> {
+/// The answer to a row of this crate; behind its first word the line has this text.
+pub fn answer(alloc: Global, text: &str, row: &Row, out: &mut String) -> Result<(), Stop> {
     match row.text(0)? {
-        "line" => put_read(alloc, behind(line).as_bytes(), out),
+        "line" => put_read(alloc, text.as_bytes(), out),
         "line-bytes" => put_read(alloc, row.bytes(1)?, out),
         _ => Err(Stop::NoSuchRow),
     }

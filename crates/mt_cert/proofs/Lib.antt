@@ -1,0 +1,4 @@
+mod Certificates
+mod Sounds
+mod JobLines
+mod Accepted
