@@ -3,17 +3,22 @@
 //!
 //! - `sh_spawner`: the commands. `running`, `held`: those that live, and the one that has ended.
 //! - `task_folder`, `script`, `outcome`: what a command finds, how it is started, and what it left. `group`: how it is ended.
+//! - `needs`: what tasks need. `fault`: why a call failed. `rests`: how long none is started then.
 //! - `folder_spool`: the files of helpers.
 #![tactic(auto)]
 
+mod fault;
 mod folder_spool;
 mod group;
 mod held;
+mod needs;
 mod outcome;
+mod rests;
 mod running;
 mod script;
 mod sh_spawner;
 mod task_folder;
 
+pub use fault::{TaskFault, Tool};
 pub use folder_spool::FolderSpool;
 pub use sh_spawner::ShSpawner;

@@ -3,7 +3,7 @@ ghost use Rattle.std.specs.Prelude.{◌≤◌, IfOk, length};
 
 use mt_base::{Bytes, Sequence};
 use mt_spawn::{FileSize, Left, Part, Sizes};
-use mt_types::{LARGEST_OUTPUT, LONGEST_STDERR};
+use mt_types::{LARGEST_OUTPUT, LONGEST_STDERR, MOST_RECORDS};
 use std::alloc::{AllocError, Global};
 use std::fs::{self, DirEntry, File};
 use std::io;
@@ -14,6 +14,44 @@ use std::rt::Files;
 
 /// The status of a child that a signal ended.
 const BY_SIGNAL: u32 = 255;
+
+/// How many files of records are kept of a task: one more than it may make, so that a task that made too many is known by it.
+const MOST_KEPT: usize = MOST_RECORDS + 1;
+
+// The files of records that a task made: some of them, all where they are not too many, and how many bytes all have.
+#[derive(Drop)]
+struct Records {
+    kept: Vec<FileSize>,
+    total: u64,
+}
+
+impl Records {
+    // There are none.
+    fn new(alloc: Global) -> Records {
+        Records {
+            kept: Vec::new(alloc),
+            total: 0,
+        }
+    }
+
+    // With one more.
+    fn add(&mut self, record: FileSize) -> Result<(), AllocError> {
+        self.total = self.total.saturating_add(record.len);
+        if self.kept.len() < MOST_KEPT {
+            self.kept.push(record)?;
+        }
+        Ok(())
+    }
+}
+
+/// Whether a folder stands at a path, and not a link to one.
+pub(crate) fn is_folder<R: Files>(rt: &R, path: &str) -> io::Result<bool> {
+    match fs::symlink_metadata(rt, path) {
+        Ok(found) => Ok(found.is_dir()),
+        Err(error) if error.kind() == ErrorKind::NotFound => Ok(false),
+        Err(error) => Err(error),
+    }
+}
 
 // How long the file of a path is. What is no file counts as missing, and so as empty.
 fn len_of<R: Files>(rt: &R, path: &str) -> io::Result<u64> {
@@ -74,13 +112,13 @@ fn record_of<R: Files>(entry: &DirEntry<(&R, Global), Global>) -> io::Result<Opt
 }
 
 // The records in a folder, in any order.
-fn records_in<R: Files>(rt: &R, alloc: Global, path: &str) -> io::Result<Vec<FileSize>> {
-    let mut records = Vec::new(alloc);
+fn records_in<R: Files>(rt: &R, alloc: Global, path: &str) -> io::Result<Records> {
+    let mut records = Records::new(alloc);
     for entry in fs::read_dir(&(rt, alloc), path)? {
         match entry {
             Ok(entry) => {
                 if let Some(record) = record_of(&entry)? {
-                    records.push(record)?;
+                    records.add(record)?;
                 }
             }
             // A name that is no text.
@@ -91,32 +129,26 @@ fn records_in<R: Files>(rt: &R, alloc: Global, path: &str) -> io::Result<Vec<Fil
     Ok(records)
 }
 
-// The records that a task made, in order of number. Where their folder is gone, there are none.
-fn records_of<R: Files>(rt: &R, alloc: Global, folder: &str) -> io::Result<Vec<FileSize>> {
+// The records that a task made, in order of number. Where their folder is gone, or is none, there are none.
+fn records_of<R: Files>(rt: &R, alloc: Global, folder: &str) -> io::Result<Records> {
     let path = format!(in alloc; "{folder}/spool")?;
-    let mut records = match records_in(rt, alloc, path.as_str()) {
-        Ok(records) => records,
-        Err(error) if matches!(error.kind(), ErrorKind::NotFound | ErrorKind::NotADirectory) => {
-            Vec::new(alloc)
-        }
-        Err(error) => return Err(error),
-    };
-    records.sort_by_key(|record| record.number)?;
+    if !is_folder(rt, path.as_str())? {
+        return Ok(Records::new(alloc));
+    }
+    let mut records = records_in(rt, alloc, path.as_str())?;
+    records.kept.sort_by_key(|record| record.number)?;
     Ok(records)
 }
 
 // How much was written.
-fn sizes_of(out: u64, files: Vec<FileSize>) -> Sizes {
-    let mut total = out;
-    for file in &files {
-        total = total.saturating_add(file.len);
-    }
+fn sizes_of(out: u64, records: Records) -> Sizes {
+    let total = out.saturating_add(records.total);
     if total > LARGEST_OUTPUT {
         Sizes::TooLarge { total }
     } else {
         Sizes::Whole {
             out,
-            files: Sequence::from_vec(files),
+            files: Sequence::from_vec(records.kept),
         }
     }
 }
@@ -128,20 +160,27 @@ fn status_of(status: ExitStatus) -> u32 {
     }
 }
 
-/// What is told of an ended task.
+/// What is told of an ended task. Where its folder is gone, or is none, it has left nothing.
 pub(crate) fn left_in<R: Files<File = File>>(
     rt: &R,
     alloc: Global,
     folder: &str,
     status: ExitStatus,
 ) -> io::Result<Left> {
+    if !is_folder(rt, folder)? {
+        return Ok(Left {
+            status: status_of(status),
+            stderr: Bytes::from_slice(alloc, b"")?,
+            made: sizes_of(0, Records::new(alloc)),
+        });
+    }
     let out = format!(in alloc; "{folder}/out")?;
     let out = len_of(rt, out.as_str())?;
-    let files = records_of(rt, alloc, folder)?;
+    let records = records_of(rt, alloc, folder)?;
     Ok(Left {
         status: status_of(status),
         stderr: error_in(rt, alloc, folder)?,
-        made: sizes_of(out, files),
+        made: sizes_of(out, records),
     })
 }
 

@@ -14,9 +14,11 @@ const JOB: u8 = 2;
 /// What the shell runs. Its words are the task's folder, the command, the one that is run before (or nothing), the program of the
 /// helpers, the login, the job's identifier, the phase, what outputs begin with, the input object's name (or nothing) and the
 /// reducer's number (or nothing).
-const SCRIPT: &str = r#"cd "$1" || exit 125
+const SCRIPT: &str = r#"marlin_helper=$4
+case $marlin_helper in /*) ;; */*) marlin_helper=$(pwd)/$marlin_helper ;; esac
+cd "$1" || exit 125
 exec 2>err
-marlin_exec=$2; marlin_init=$3; marlin_helper=$4; marlin_login=$5
+marlin_exec=$2; marlin_init=$3; marlin_login=$5
 marlin_dir=$(pwd)
 MANTA_JOB_ID=$6; MANTA_PHASE=$7; MANTA_OUTPUT_BASE=$8
 MANTA_INPUT_FILE=$marlin_dir/input; MANTA_ASSETS=$marlin_dir/assets; LC_ALL=C

@@ -1,9 +1,12 @@
 //! A spawner of commands under a shell.
-ghost use Rattle.std.specs.Prelude.{◌≡◌, ◌<◌, ℕ, List, ⊤};
+ghost use Rattle.std.specs.Prelude.{◌≡◌, ◌+◌, ◌<◌, ℕ, List, ⊤, min};
 
+use crate::fault::{TaskFault, Teller};
 use crate::group::{end, end_rest};
 use crate::held::Held;
-use crate::outcome::left_in;
+use crate::needs::{Unready, prepare};
+use crate::outcome::{is_folder, left_in};
+use crate::rests::Rests;
 use crate::running::{Children, Found};
 use crate::script::command_of;
 use crate::task_folder::{Unstarted, fill, make_folder, path_of};
@@ -11,8 +14,8 @@ use mt_base::{Duplicate, NUMBERS_END};
 use mt_edge::{ReadStep, Source};
 use mt_spawn::{Begun, Left, Order, Part, Spawner, Ticket, Waited};
 use std::alloc::{AllocError, Global};
-use std::fs::{self, File};
-use std::io::ErrorKind;
+use std::fs::File;
+use std::io::{Eprint, ErrorKind};
 use std::marker::Model;
 use std::process::{Child, Command, ExitStatus, Processes, Stdio, SystemProcess};
 use std::rt::Files;
@@ -27,7 +30,8 @@ const LAST_PAUSE: u64 = 2_000;
 
 /// Commands under `sh`, each in a folder of its own below the work folder, which is made where it is missing. A child is the first
 /// of a session and of a group, which is ended as a whole. No bytes of a child are ever whole in memory, and one file of its is open
-/// at a time. It tells nothing of what a command gives.
+/// at a time. It tells nothing of what a command gives. Behind a start that failed no other is tried for a second, then two, and at most
+/// thirty, and each answers `Failed`. A new cause of a failure is said on standard error, at most once a minute.
 #[derive(Drop)]
 pub struct ShSpawner<R> {
     rt: R,
@@ -43,7 +47,9 @@ pub struct ShSpawner<R> {
     faults: u64,
     waits: u64,
     company: u64,
-    failure: Option<io::Error>,
+    failure: Option<TaskFault>,
+    rests: Rests,
+    teller: Teller,
 }
 
 impl<R> Model for ShSpawner<R> {
@@ -91,6 +97,8 @@ impl<R> ShSpawner<R> {
             waits: 0,
             company: 0,
             failure: None,
+            rests: Rests::new(),
+            teller: Teller::new(),
         })
     }
 
@@ -144,22 +152,56 @@ impl<R> ShSpawner<R> {
         self.company
     }
 
-    /// The first call that failed, and why; there is one exactly where a fault was counted.
-    pub fn failure(&self) -> Option<&io::Error>
+    /// Why the last call that failed did so; there is a cause exactly where a fault was counted.
+    pub fn failure(&self) -> Option<&TaskFault>
         ensures { is_some result ≡ nat_lt 0 self.now.faults }
     {
         self.failure.as_ref()
     }
+}
 
-    // Counts a call that failed, and keeps the first.
-    fn fail(&mut self, error: io::Error)
+impl<R: Clock + Eprint> ShSpawner<R> {
+    ghost use Rattle.std.specs.Prelude.{◌≡◌, true, false, if◌then◌else◌};
+    ghost use Rattle.mt_adapters.specs.Device.{one_more};
+
+    // Counts a call that failed, keeps why, and says it.
+    fn fail(&mut self, fault: TaskFault)
         ensures { self.new ≡ record self.old { faults = one_more self.old.faults } }
     {
-        self.faults = self.faults.saturating_add(1);
-        if self.failure.is_none() {
-            self.failure = Some(error);
-        }
+        self.teller.tell(&self.rt, &fault);
+        self.faults = counted(self.faults);
+        self.failure = Some(fault);
     }
+
+    // Counts a start that failed, and begins a rest.
+    fn fail_to_start(&mut self, fault: TaskFault)
+        ensures { self.new ≡ record self.old { faults = one_more self.old.faults } }
+    {
+        self.rests.begin(&self.rt);
+        self.fail(fault);
+    }
+
+    // Counts a start as failed without trying it, where one failed just before.
+    fn fails_at_once(&mut self) -> bool
+        ensures { self.new ≡ (if result then record self.old { faults = one_more self.old.faults } else self.old) }
+    {
+        let Some(fault) = self.failure.take() else {
+            return false;
+        };
+        let lasts = self.rests.lasts(&self.rt);
+        if lasts {
+            self.faults = counted(self.faults);
+        }
+        self.failure = Some(fault);
+        lasts
+    }
+}
+
+// A count of faults with one more.
+fn counted(faults: u64) -> u64
+    ensures { result ≡ min 18446744073709551615 (faults + 1) }
+{
+    faults.saturating_add(1)
 }
 
 // Whether it is want of memory.
@@ -167,8 +209,11 @@ fn is_memory(error: &io::Error) -> bool {
     error.kind() == ErrorKind::OutOfMemory
 }
 
-// Gives this user every right to what is in a folder.
-fn open_up<R: Processes>(rt: &R, alloc: Global, folder: &str) -> io::Result<()> {
+// Gives this user every right to what is in a folder. What is no folder stays as it is.
+fn open_up<R: Files + Processes>(rt: &R, alloc: Global, folder: &str) -> io::Result<()> {
+    if !is_folder(rt, folder)? {
+        return Ok(());
+    }
     let mut command = Command::new(alloc, "chmod")?;
     command.arg("-R")?.arg("u+rwX")?.arg(folder)?;
     command
@@ -208,21 +253,6 @@ fn left_of<R: Files<File = File> + Processes>(
     }
     open_up(rt, alloc, folder)?;
     left_in(rt, alloc, folder, status)
-}
-
-// Makes the folder of tasks where it is missing, and sees that there is a shell.
-fn prepare<R: Files + Processes>(rt: &R, alloc: Global, work: &str) -> io::Result<()> {
-    fs::create_dir_all(rt, work)?;
-    let mut command = Command::new(alloc, "sh")?;
-    command.arg("-c")?.arg(":")?;
-    command
-        .stdin(Stdio::null())
-        .stdout(Stdio::null())
-        .stderr(Stdio::null());
-    match command.status(rt)?.success() {
-        true => Ok(()),
-        false => Err(io::Error::from(ErrorKind::NotFound)),
-    }
 }
 
 impl<R: Files<File = File> + Processes<Started = SystemProcess> + Clock> ShSpawner<R> {
@@ -282,13 +312,13 @@ impl<R: Files<File = File> + Processes<Started = SystemProcess> + Clock> ShSpawn
     }
 
     // Makes the folder of the next task, under whose number no child lives.
-    fn next_folder(&mut self, alloc: Global) -> io::Result<u64>
+    fn next_folder(&mut self, alloc: Global) -> Result<u64, Unready>
         ensures same { self.new ≡ self.old }
         ensures fresh { IfOk result (λ n. lives n self.new.live ≡ false) }
         ensures small { IfOk result (λ n. n < 18446744073709551615) }
     {
         if !self.is_ready {
-            prepare(&self.rt, alloc, &self.work)?;
+            prepare(&self.rt, alloc, &self.work, &self.helper)?;
             self.is_ready = true;
         }
         let made = make_folder(&self.rt, alloc, &self.work, self.children.next);
@@ -299,7 +329,7 @@ impl<R: Files<File = File> + Processes<Started = SystemProcess> + Clock> ShSpawn
             }
             Err(error) => {
                 self.is_ready = false;
-                Err(error)
+                Err(Unready::System(error))
             }
         }
     }
@@ -319,7 +349,8 @@ impl<R: Files<File = File> + Processes<Started = SystemProcess> + Clock> ShSpawn
     {
         let number = match self.next_folder(alloc) {
             Ok(number) => number,
-            Err(error) => return Err(Unstarted::System(error)),
+            Err(Unready::Missing(tool)) => return Err(Unstarted::Missing(tool)),
+            Err(Unready::System(error)) => return Err(Unstarted::System(error)),
         };
         match self.launch(alloc, number, order, bytes) {
             Ok(process) => match self.children.add(number, process) {
@@ -381,7 +412,7 @@ impl<R: Files<File = File> + Processes<Started = SystemProcess> + Clock> ShSpawn
     }
 }
 
-impl<R: Files<File = File> + Processes<Started = SystemProcess> + Clock> ShSpawner<R> {
+impl<R: Files<File = File> + Processes<Started = SystemProcess> + Clock + Eprint> ShSpawner<R> {
     ghost use Rattle.std.specs.Prelude.{◌≡◌, ◌<◌, IfOk, None, length, ⊤};
     ghost use Rattle.std.specs.Io.{ReadsAtMost};
     ghost use Rattle.mt_spawn.specs.Children.{Waits};
@@ -424,7 +455,7 @@ impl<R: Files<File = File> + Processes<Started = SystemProcess> + Clock> ShSpawn
                 if is_memory(&error) {
                     return Waited::Lost(ticket);
                 }
-                self.fail(error);
+                self.fail(TaskFault::Outcome(error));
                 Waited::Failed(ticket)
             }
         }
@@ -459,7 +490,8 @@ impl<R: Files<File = File> + Processes<Started = SystemProcess> + Clock> ShSpawn
     }
 }
 
-impl<R: Files<File = File> + Processes<Started = SystemProcess> + Clock> Spawner for ShSpawner<R> {
+impl<R: Files<File = File> + Processes<Started = SystemProcess> + Clock + Eprint> Spawner
+    for ShSpawner<R> {
     ghost use Rattle.std.specs.Prelude.{◌≡◌, ◌<◌, None, length, true, ⊤};
     ghost use Rattle.std.proofs.lemmas.Option.{none-some};
     ghost use Rattle.mt_adapters.specs.Device.{faults_after_read};
@@ -492,14 +524,24 @@ impl<R: Files<File = File> + Processes<Started = SystemProcess> + Clock> Spawner
         ensures reads { NeverFell (S.read_faults bytes.old) (S.read_faults bytes.new) }
         ensures stays { S.source_stays bytes.old bytes.new }
     {
+        if self.fails_at_once() {
+            return Begun::Failed;
+        }
         match self.begin(alloc, order, bytes) {
-            Ok(number) => Begun::Began(Ticket { number }),
+            Ok(number) => {
+                self.rests.end();
+                Begun::Began(Ticket { number })
+            }
             Err(Unstarted::Source) => Begun::InputFailed,
+            Err(Unstarted::Missing(tool)) => {
+                self.fail_to_start(TaskFault::Missing(tool));
+                Begun::Failed
+            }
             Err(Unstarted::System(error)) => {
                 if is_memory(&error) {
                     return Begun::Memory;
                 }
-                self.fail(error);
+                self.fail_to_start(TaskFault::Start(error));
                 Begun::Failed
             }
         }
@@ -536,12 +578,12 @@ impl<R: Files<File = File> + Processes<Started = SystemProcess> + Clock> Spawner
         let most = (size - at).min(into.len() as u64) as usize;
         match self.read_held(part, at, &mut into[..most]) {
             Ok(0) => {
-                self.fail(io::Error::from(ErrorKind::UnexpectedEof));
+                self.fail(TaskFault::Read(io::Error::from(ErrorKind::UnexpectedEof)));
                 ReadStep::Failed
             }
             Ok(count) => ReadStep::Took(count),
             Err(error) => {
-                self.fail(error);
+                self.fail(TaskFault::Read(error));
                 ReadStep::Failed
             }
         }
@@ -556,7 +598,7 @@ impl<R: Files<File = File> + Processes<Started = SystemProcess> + Clock> Spawner
             return;
         };
         if let Err(error) = self.discard(held.number) {
-            self.fail(error);
+            self.fail(TaskFault::Remove(error));
         }
     }
 

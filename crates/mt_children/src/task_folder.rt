@@ -3,6 +3,7 @@ ghost use Rattle.std.specs.Prelude.{◌≡◌, ◌≤◌, ◌<◌, IfOk, IfErr, 
 ghost use Rattle.std.specs.Io.KnownBytes.{IsAtEnd};
 ghost use Rattle.mt_base.specs.Counts.{NeverFell, Rose};
 
+use crate::fault::Tool;
 use mt_edge::{ReadStep, Source};
 use mt_spawn::{AssetSize, Order};
 use std::alloc::{AllocError, Global};
@@ -19,6 +20,8 @@ const PIECE: usize = 65_536;
 pub(crate) enum Unstarted {
     /// A read of its bytes has failed.
     Source,
+    /// A program that tasks need is not there.
+    Missing(Tool),
     /// A call of the system has failed, or memory was wanting.
     System(io::Error),
 }
@@ -107,10 +110,15 @@ fn make_asset<R: Files<File = File>>(
     File::create(rt, path.as_str())
 }
 
-// Makes the input's file, and the folder for records.
+// Makes the input's file, the folder for records, and the files of what the command writes: on a disk that has no room for them no
+// task is started.
 fn make_input<R: Files<File = File>>(rt: &R, alloc: Global, folder: &str) -> io::Result<File> {
     let spool = format!(in alloc; "{folder}/spool")?;
     fs::create_dir(rt, spool.as_str())?;
+    for name in ["err", "out"] {
+        let path = format!(in alloc; "{folder}/{name}")?;
+        File::create(rt, path.as_str())?;
+    }
     let input = format!(in alloc; "{folder}/input")?;
     File::create(rt, input.as_str())
 }

@@ -1,10 +1,11 @@
 -- Files in a spool, piece by piece and one by one.
-use Rattle.std.proofs.Common.{◌≡◌, ◌==◌, ℕ, Bool, true, false, cond, List, [], ◌∷◌, ◌++◌, Option, Some, None, option_map, refl, ap, sym, subst, ◌∙◌, arith}
+use Rattle.std.proofs.Common.{◌≡◌, ◌==◌, ℕ, ◌+◌, ◌≤◌, Bool, true, false, cond, List, [], ◌∷◌, ◌++◌, Option, Some, None, option_map, refl, ap, sym, subst, ◌∙◌, arith}
 use Rattle.std.specs.Prelude.{◌||◌, IfSome}
+use Rattle.std.proofs.lemmas.Bool.{eqb-true}
 use Rattle.std.proofs.lemmas.Bool.Decides.{nat_tests}
 use Rattle.mt_spawn.specs.Spools.{AppendsFront, SpoolFile, has_file, with_bytes, with_file}
 use Rattle.mt_spawn.proofs.SpoolBytes.{with_nothing}
-use Rattle.mt_helper.specs.Spooling.{IsLowestFree, PutsFront, PutsWhole, with_record}
+use Rattle.mt_helper.specs.Spooling.{AreTakenBelow, IsLowestFree, PutsFront, PutsWhole, with_record}
 
 -- a file grows that stands behind files of other numbers
 pub grown_last : (n : ℕ) (old piece : List ℕ) (fs : List SpoolFile) → has_file n fs ≡ false → with_bytes n piece (with_record n old fs) ≡ with_record n (old ++ piece) fs
@@ -65,3 +66,34 @@ puts_front n bytes a b c free made more = record {
   free = free;
   put = grown n [] more.written a b c (free_of n a free) made more.grew;
 }
+
+-- ---- numbers that are taken
+
+-- none is below the first
+pub none_below : (files : Option (List SpoolFile)) → IfSome files (AreTakenBelow 0)
+none_below None = tt
+none_below (Some fs) = λ k below. absurd (omega (arith, below))
+
+-- a file more leaves each where it was
+pub has_more : (k n : ℕ) (bytes : List ℕ) (fs : List SpoolFile) → has_file k fs ≡ true → has_file k (with_record n bytes fs) ≡ true
+has_more k n bytes [] there = absurd (cc)
+has_more k n bytes (f ∷ fs) there = here (k == f.number) there (has_more k n bytes fs)
+  where
+    here : (b : Bool) → (b || has_file k fs) ≡ true → (has_file k fs ≡ true → has_file k (with_record n bytes fs) ≡ true) → (b || has_file k (with_record n bytes fs)) ≡ true
+    here true is others = refl
+    here false is others = others is
+
+-- behind the lowest that was free, all up to it are taken
+below_next : (n : ℕ) (bytes : List ℕ) (fs : List SpoolFile) → IsLowestFree fs n → AreTakenBelow (n + 1) (with_record n bytes fs)
+below_next n bytes fs free k below = here (k == n) refl
+  where
+    here : (b : Bool) → (k == n) ≡ b → has_file k (with_record n bytes fs) ≡ true
+    here true is = subst (λ (i : ℕ). has_file i (with_record n bytes fs) ≡ true) (sym (eqb-true k n is)) (has_last n bytes fs)
+    here false is = has_more k n bytes fs (free.below k (grind (arith, nat_tests, below, is)))
+
+-- the same of files that may not be told, and of the number of a counter
+pub taken_next : (n : ℕ) (bytes : List ℕ) (a b : Option (List SpoolFile)) → IfSome a (λ fs. IsLowestFree fs n) → b ≡ option_map (with_record n bytes) a
+    → (next : ℕ) → next ≤ n + 1 → IfSome b (AreTakenBelow next)
+taken_next n bytes None b free put next few = subst (λ (o : Option (List SpoolFile)). IfSome o (AreTakenBelow next)) (sym put) tt
+taken_next n bytes (Some fs) b free put next few =
+    subst (λ (o : Option (List SpoolFile)). IfSome o (AreTakenBelow next)) (sym put) (λ k below. below_next n bytes fs free k (omega (arith, below, few)))

@@ -14,6 +14,10 @@ pub record IsLowestFree (files : List SpoolFile) (n : ℕ) : Type 0 where
   pub free : has_file n files ≡ false
   pub below : (k : ℕ) → k < n → has_file k files ≡ true
 
+-- each number below this one is taken
+abbrev pub AreTakenBelow : ℕ → List SpoolFile → Type 0
+AreTakenBelow n files = (k : ℕ) → k < n → has_file k files ≡ true
+
 -- all 4,095 numbers are taken
 abbrev pub AreTaken : List SpoolFile → Type 0
 AreTaken files = (k : ℕ) → k < MOST_RECORDS → has_file k files ≡ true

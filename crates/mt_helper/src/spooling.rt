@@ -3,7 +3,7 @@ ghost use Rattle.std.specs.Prelude.{◌≡◌, ◌<◌, true, IfSome, OnErr, len
 ghost use Rattle.mt_base.specs.Counts.{HasCause};
 ghost use Rattle.mt_spawn.specs.Spools.{has_file};
 ghost use Rattle.mt_helper.specs.Ends.{halt_status};
-ghost use Rattle.mt_helper.specs.Spooling.{Adds, Halts, PutsAt, Takes};
+ghost use Rattle.mt_helper.specs.Spooling.{Adds, AreTakenBelow, Halts, PutsAt, Takes};
 
 use crate::status::Status;
 use mt_spawn::{Spool, SpoolFault, SpoolStep};
@@ -18,12 +18,13 @@ pub(crate) enum Halt {
     Fault,
 }
 
-/// Makes an empty file of the lowest number that is free.
-pub(crate) fn take_number<P: Spool>(spool: &mut P) -> Result<u32, Halt>
+/// Makes an empty file of the lowest number that is free. It is known that those below `from` are taken.
+pub(crate) fn take_number<P: Spool>(spool: &mut P, from: u32) -> Result<u32, Halt>
+    requires { IfSome (P.files spool.old) (AreTakenBelow from) }
     ensures takes { Takes (P.files spool.old) result (P.files spool.new) }
     ensures faults { Halts (P.faults spool.old) result (P.faults spool.new) }
 {
-    for number in 0..MOST_RECORDS as u32 {
+    for number in from..MOST_RECORDS as u32 {
         match spool.create_new(number) {
             SpoolStep::Done => return Ok(number),
             SpoolStep::Taken => {}
@@ -55,13 +56,15 @@ pub(crate) fn status_of(halt: Halt) -> Status
     }
 }
 
-/// Makes a file with these bytes, of which there are some, under the lowest number that is free.
-pub(crate) fn put_file<P: Spool>(spool: &mut P, bytes: &[u8]) -> Result<u32, Halt>
-    requires { 0 < length bytes.now }
+/// Makes a file with these bytes, of which there are some, under the lowest number that is free. It is known that those below `from`
+/// are taken.
+pub(crate) fn put_file<P: Spool>(spool: &mut P, from: u32, bytes: &[u8]) -> Result<u32, Halt>
+    requires some { 0 < length bytes.now }
+    requires taken { IfSome (P.files spool.old) (AreTakenBelow from) }
     ensures puts { PutsAt (P.files spool.old) bytes.now result (P.files spool.new) }
     ensures faults { Halts (P.faults spool.old) result (P.faults spool.new) }
 {
-    let number = take_number(spool)?;
+    let number = take_number(spool, from)?;
     match add(spool, number, bytes) {
         Ok(()) => Ok(number),
         Err(SpoolFault) => Err(Halt::Fault),

@@ -108,7 +108,7 @@ pub(crate) fn stream<S: Source, K: Sink, P: Spool>(
     let Ok(mut buffer) = vec![in alloc; 0u8; PIECE] else {
         return Status::OutOfMemory;
     };
-    let number = match put_file(spool, head) {
+    let number = match put_file(spool, 0, head) {
         Ok(number) => number,
         Err(halt) => return status_of(halt),
     };

@@ -1,5 +1,5 @@
 -- One record more, or the one that ends it.
-use Rattle.std.proofs.Common.{◌≡◌, ◌∙◌, ℕ, List, [], ◌∷◌, arith, get_or, subst, sym, ◌<◌, ◌≤◌, length, zero-add}
+use Rattle.std.proofs.Common.{◌≡◌, ◌∙◌, ℕ, List, [], ◌∷◌, arith, get_or, subst, refl, sym, ◌<◌, ◌≤◌, length, zero-add}
 use Rattle.std.specs.Prelude.{slice_index_or}
 use Rattle.std.specs.List.{range_with_len}
 use Rattle.std.proofs.lemmas.List.FromFn.{get_or-range_with_len, length-range_with_len}
@@ -22,9 +22,9 @@ returns-in_default g c =
     (sym (map_twice record_bytes (λ r. part_record r (bytes_in c.args.text.now (slice_index_or c.args.parts.now r []))) range))
     (list_stops (λ r. record_bytes (part_record r (bytes_in c.args.text.now (slice_index_or c.args.parts.now r [])))) range
     (g.P.Spool.files c.args.spool.now) (g.P.Spool.files c.loop-reducer.spool) (g.P.Spool.files c.put_part.new.spool) (g.P.Spool.faults c.args.spool.now) (g.P.Spool.faults c.loop-reducer.spool) (g.P.Spool.faults c.put_part.new.spool)
-    c.put_part.result i i within is c.loop-reducer.invariant
+    c.put_part.result i i within is c.loop-reducer.invariant.made
     (subst (λ (spans : List Span). Made (record_bytes (part_record i (bytes_in c.args.text.now spans)) ∷ []) c.put_part.result (g.P.Spool.files c.loop-reducer.spool) (g.P.Spool.faults c.loop-reducer.spool) (g.P.Spool.files c.put_part.new.spool) (g.P.Spool.faults c.put_part.new.spool))
-    c.part.ensures c.put_part.ensures)
+    c.part.ensures c.put_part.ensures.made)
     c.in_default.not-Done)
 
 pub loop-reducer-preserved : goal.loop-reducer-preserved
@@ -34,11 +34,14 @@ loop-reducer-preserved g c =
     let range : List ℕ = range_with_len 0 count in
     let within : i < length range = omega (arith, length-range_with_len 0 count, c.loop-reducer-test.true) in
     let is : i ≡ get_or range i i = sym (get_or-range_with_len 0 count i i c.loop-reducer-test.true ∙ zero-add i) in
-    list_more (λ r. record_bytes (part_record r (bytes_in c.args.text.now (slice_index_or c.args.parts.now r [])))) range
-    (g.P.Spool.files c.args.spool.now) (g.P.Spool.files c.loop-reducer.spool) (g.P.Spool.files c.put_part.new.spool) (g.P.Spool.faults c.args.spool.now) (g.P.Spool.faults c.loop-reducer.spool) (g.P.Spool.faults c.put_part.new.spool)
-    i i within is c.loop-reducer.invariant
-    (subst (λ (spans : List Span). Made (record_bytes (part_record i (bytes_in c.args.text.now spans)) ∷ []) Done (g.P.Spool.files c.loop-reducer.spool) (g.P.Spool.faults c.loop-reducer.spool) (g.P.Spool.files c.put_part.new.spool) (g.P.Spool.faults c.put_part.new.spool))
-    c.part.ensures c.in-Done.ensures)
+    record {
+      made = list_more (λ r. record_bytes (part_record r (bytes_in c.args.text.now (slice_index_or c.args.parts.now r [])))) range
+          (g.P.Spool.files c.args.spool.now) (g.P.Spool.files c.loop-reducer.spool) (g.P.Spool.files c.put_part.new.spool) (g.P.Spool.faults c.args.spool.now) (g.P.Spool.faults c.loop-reducer.spool) (g.P.Spool.faults c.put_part.new.spool)
+          i i within is c.loop-reducer.invariant.made
+          (subst (λ (spans : List Span). Made (record_bytes (part_record i (bytes_in c.args.text.now spans)) ∷ []) Done (g.P.Spool.files c.loop-reducer.spool) (g.P.Spool.faults c.loop-reducer.spool) (g.P.Spool.files c.put_part.new.spool) (g.P.Spool.faults c.put_part.new.spool))
+          c.part.ensures c.in-Done.ensures.made);
+      taken = c.in-Done.ensures.taken refl;
+    }
 
 pub returns : goal.returns
 returns g c =
@@ -48,4 +51,4 @@ returns g c =
     subst (λ (l : List (List ℕ)). Made l Done (g.P.Spool.files c.args.spool.now) (g.P.Spool.faults c.args.spool.now) (g.P.Spool.files c.loop-reducer.spool) (g.P.Spool.faults c.loop-reducer.spool))
     (sym (map_twice record_bytes (λ r. part_record r (bytes_in c.args.text.now (slice_index_or c.args.parts.now r []))) range))
     (list_all (λ r. record_bytes (part_record r (bytes_in c.args.text.now (slice_index_or c.args.parts.now r [])))) range c.loop-reducer.reducer
-    (g.P.Spool.files c.args.spool.now) (g.P.Spool.files c.loop-reducer.spool) (g.P.Spool.faults c.args.spool.now) (g.P.Spool.faults c.loop-reducer.spool) past c.loop-reducer.invariant)
+    (g.P.Spool.files c.args.spool.now) (g.P.Spool.files c.loop-reducer.spool) (g.P.Spool.faults c.args.spool.now) (g.P.Spool.faults c.loop-reducer.spool) past c.loop-reducer.invariant.made)

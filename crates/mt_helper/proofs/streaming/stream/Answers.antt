@@ -3,10 +3,13 @@ use Rattle.std.proofs.Common.{◌∙◌, ℕ, List, Err, ap, inl, option_map, re
 use Rattle.mt_spawn.specs.Spools.{AppendsFront, with_bytes}
 use Rattle.mt_helper.specs.declared.status.Status.TheVariants.{OutOfMemory}
 use Rattle.mt_helper.specs.Ends.{AreLater, ends, halt_status}
-use Rattle.mt_helper.proofs.Spools.{is_there}
+use Rattle.mt_helper.proofs.Spools.{is_there, none_below}
 use Rattle.mt_helper.proofs.Streamed.{halt-not_all, halt-runs, halt-small, halt_later, halted, halted_count, later_on, later_same, never_fell, rose_later, streamed_cut, streamed_front, streamed_none, streamed_whole}
 use Rattle.mt_helper.proofs.Streams.{stays_there}
 use Rattle.mt_helper.proofs.streaming.stream.Goals as goal
+
+pub put_file-requires-clause-taken : goal.put_file-requires-clause-taken
+put_file-requires-clause-taken g c = none_below (g.P.Spool.files c.args.spool.now)
 
 pub returns-in_default-clause-streamed : goal.returns-in_default-clause-streamed
 returns-in_default-clause-streamed g c =

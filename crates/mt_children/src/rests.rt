@@ -1,0 +1,48 @@
+//! How long no task is started once a start has failed.
+use std::time::{Clock, Duration, Instant};
+
+/// The first rest, in seconds; each further one is twice as long.
+const FIRST_REST: u64 = 1;
+
+/// The longest rest, in seconds.
+const LAST_REST: u64 = 30;
+
+/// The rest behind the last starts, all of which failed.
+#[derive(Drop)]
+pub(crate) struct Rests {
+    time: Duration,
+    since: Option<Instant>,
+}
+
+impl Rests {
+    /// No start has failed.
+    pub(crate) fn new() -> Rests {
+        Rests {
+            time: Duration::ZERO,
+            since: None,
+        }
+    }
+
+    /// Whether the rest isn't over.
+    pub(crate) fn lasts<R: Clock>(&self, rt: &R) -> bool {
+        match self.since {
+            Some(since) => since.elapsed(rt).is_ok_and(|passed| passed < self.time),
+            None => false,
+        }
+    }
+
+    /// A start has failed: a rest begins, twice as long as the last.
+    pub(crate) fn begin<R: Clock>(&mut self, rt: &R) {
+        let twice = self.time.saturating_add(self.time);
+        self.time = twice
+            .max(Duration::from_secs(FIRST_REST))
+            .min(Duration::from_secs(LAST_REST));
+        self.since = Instant::now(rt).ok();
+    }
+
+    /// A start was made: there is no rest.
+    pub(crate) fn end(&mut self) {
+        self.time = Duration::ZERO;
+        self.since = None;
+    }
+}
