@@ -1,14 +1,12 @@
 -- Bytes of one line come one by one where none of a body's does.
-use Rattle.std.proofs.Common.{◌≡◌, ◌≢◌, ℕ, ◌+◌, ◌-◌, ◌<◌, ◌≤◌, ◌++◌, Bool, true, false, List, [], ◌∷◌, length, suc, zero, Option, Some, None, refl, sym, subst, ap, ◌∙◌, arith, length-append, take}
+use Rattle.std.proofs.Common.{◌≡◌, ◌≢◌, ℕ, ◌+◌, ◌-◌, ◌<◌, ◌≤◌, ◌++◌, true, false, List, [], ◌∷◌, length, suc, Option, None, refl, sym, subst, ◌∙◌, arith, length-append, take}
 use Rattle.std.proofs.lemmas.List.{length-take-le, get_or-take}
-use Rattle.std.specs.Prelude.{get_or, nat_eq, nat_le, if◌then◌else◌}
+use Rattle.std.specs.Prelude.{get_or, nat_eq, nat_le}
 use Rattle.std.proofs.lemmas.Bool.Decides.{nat_tests}
-use Rattle.httparse.specs.Ascii.{line_feed, carriage_return}
+use Rattle.httparse.specs.Ascii.{line_feed}
 use Rattle.mt_edge.specs.Stream.{LeftAfter}
-use Rattle.mt_http.specs.Body.{BodyState, after_bytes, after_line, over, trailer_byte, trailer_line, next_state, next_at, is_data, is_sound, ended, line_byte, line_limit, line_room, line_room_at, told_from, trailer_limit}
-use Rattle.mt_http.specs.BodyReading.{Goes, LeadsTo, with_bytes}
-use Rattle.mt_http.specs.Chunk.{chunk_line_size}
-use Rattle.mt_http.specs.declared.message.Ending.TheVariants.{Whole, Bad}
+use Rattle.mt_http.specs.Body.{BodyState, after_bytes, trailer_byte, trailer_line, next_state, next_at, is_data, is_sound, ended, line_byte, line_limit, line_room, line_room_at, told_from, trailer_limit}
+use Rattle.mt_http.specs.BodyReading.{Goes}
 use Rattle.mt_http.specs.declared.stage.Stage.{Stage}
 use Rattle.mt_http.specs.declared.stage.Stage.TheVariants as at
 use Rattle.mt_http.specs.declared.stage.TrailerLine.{TrailerLine}

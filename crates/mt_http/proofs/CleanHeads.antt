@@ -1,9 +1,8 @@
 -- The fields of a head that is read.
-use Rattle.std.proofs.Common.{◌≡◌, ℕ, suc, ◌+◌, ◌<◌, ◌≤◌, Bool, true, false, List, [], ◌∷◌, ◌++◌, length, map, reverse, All, Some, refl, ap, sym, subst, ◌∙◌, arith, length-append, option_map}
+use Rattle.std.proofs.Common.{◌≡◌, ℕ, suc, ◌≤◌, Bool, true, false, List, [], ◌∷◌, ◌++◌, length, map, reverse, All, Some, refl, ap, sym, subst, ◌∙◌, arith, option_map}
 use Rattle.std.specs.Prelude.{Option, None}
 use Rattle.std.specs.Char.{to_ascii_lowercase}
 use Rattle.std.specs.Str.{str_to_ascii_lowercase}
-use Rattle.std.proofs.lemmas.Bool.{cases_Bool}
 use Rattle.std.proofs.lemmas.Bool.Decides.{nat_tests}
 use Rattle.std.proofs.lemmas.List.{length-map, reverse-append, reverse-reverse}
 use Rattle.std.proofs.lemmas.List.Elements.{All-nil, All-cons, All-head, All-tail}
@@ -12,7 +11,6 @@ use Rattle.std.proofs.lemmas.Str.Ascii.{lowercase-lowercase}
 use Rattle.httparse.specs.Grammar.{AllPass, IsField, IsToken, RequestHead, is_ows, is_token_byte, is_value_byte, skip_ows, trim_ows}
 use Rattle.httparse.specs.Grammar as grammar
 use Rattle.httparse.proofs.TrimLemmas.{AllPass-trim_ows}
-use Rattle.mt_types.specs.declared.object.Field.{Field}
 use Rattle.mt_http.specs.Framing.{IsRequestHeadOf, RequestAt, field_limit}
 use Rattle.mt_http.specs.Message.{IsClean, field_of, fields_of, framing, head_of, head_with}
 use Rattle.mt_http.specs.declared.framing.Framing.{Framing}

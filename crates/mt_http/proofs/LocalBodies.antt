@@ -1,6 +1,6 @@
 -- A whole body is told by the bytes up to its end.
 use Rattle.std.proofs.Common.{◌≡◌, ◌⊎◌, inl, inr, ℕ, true, false, List, [], ◌∷◌, ◌++◌, None, refl, ap, sym, subst, ◌∙◌}
-use Rattle.mt_http.specs.Body.{BodyState, Told, ended, is_data, next_state, told_at_end, told_by, told_from, with_byte}
+use Rattle.mt_http.specs.Body.{BodyState, Told, ended, is_data, next_state, told_by, told_from, with_byte}
 use Rattle.mt_http.specs.declared.message.Ending.{Ending}
 use Rattle.mt_http.specs.declared.message.Ending.TheVariants.{Whole, Truncated, Bad, TooLarge}
 use Rattle.mt_http.specs.declared.stage.Stage.{Stage}

@@ -1,5 +1,5 @@
 -- Reading a head byte by byte: what one more byte, the source's end and the limit make of it
-use Rattle.std.proofs.Common.{◌≡◌, ℕ, ◌+◌, ◌≤◌, inl, inr, List, [], ◌∷◌, ◌++◌, length, Option, Some, None, ap, sym, subst, ◌∙◌, append_assoc, append-nil, length-append, arith}
+use Rattle.std.proofs.Common.{◌≡◌, ℕ, ◌+◌, ◌<◌, ◌≤◌, inl, inr, List, [], ◌++◌, length, Option, Some, None, ap, sym, subst, ◌∙◌, append_assoc, append-nil, length-append, arith}
 use Rattle.std.specs.Prelude.{IfSome}
 use Rattle.std.proofs.lemmas.Grind.{flat_map-append}
 use Rattle.httparse.specs.Grammar.{LineEnd, print_end, print_blank}
@@ -51,21 +51,21 @@ head_ended left faults lines front read.TooLong left' faults' before few unfinis
 head_ended left faults lines front read.SourceFault left' faults' before few unfinished none never no_case last = absurd no_case
 head_ended left faults lines front read.Memory left' faults' before few unfinished none never no_case last = absurd no_case
 
-too_long_at : (lines : List LineEnd) (front : List ℕ) (b : ℕ) (rest : List ℕ) → length (print_blank lines ++ front) ≡ head_limit → IsHeadFront front → HasLongHead (((print_blank lines ++ front) ++ b ∷ []) ++ rest)
-too_long_at lines front b rest full unfinished =
+too_long_at : (lines : List LineEnd) (front more rest : List ℕ) → length (print_blank lines ++ front) ≡ head_limit → IsHeadFront front → 0 < length more → HasLongHead (((print_blank lines ++ front) ++ more) ++ rest)
+too_long_at lines front more rest full unfinished some =
     let bytes = print_blank lines ++ front in
-    let e = append_assoc bytes (b ∷ []) rest in
+    let e = append_assoc bytes more rest in
     record {
-      no_head = subst HasNoHead (sym e) (long_no_head bytes (b ∷ rest) (front_is_no_head lines front unfinished) (omega (arith, full)));
-      many = omega (arith, full, ap length e, length-append bytes (b ∷ rest));
+      no_head = subst HasNoHead (sym e) (long_no_head bytes (more ++ rest) (front_is_no_head lines front unfinished) (omega (arith, full)));
+      many = omega (arith, full, some, ap length e, length-append bytes (more ++ rest), length-append more rest);
     }
 
--- another byte stands behind the limit
-pub head_too_long : (left : Option (List ℕ)) (lines : List LineEnd) (front : List ℕ) (mid : Option (List ℕ)) (b : ℕ) (left' : Option (List ℕ))
-    → LeftAfter left (print_blank lines ++ front) mid → length (print_blank lines ++ front) ≡ head_limit → IsHeadFront front → LeftAfter mid (b ∷ []) left' → IfSome left HasLongHead
-head_too_long left lines front mid b left' before full unfinished byte =
-    if_some_before HasLongHead left ((print_blank lines ++ front) ++ b ∷ []) left' (left_after left (print_blank lines ++ front) mid (b ∷ []) left' before byte) (each left')
+-- more bytes stand behind the limit
+pub head_too_long : (left : Option (List ℕ)) (lines : List LineEnd) (front : List ℕ) (mid : Option (List ℕ)) (more : List ℕ) (left' : Option (List ℕ))
+    → LeftAfter left (print_blank lines ++ front) mid → length (print_blank lines ++ front) ≡ head_limit → IsHeadFront front → LeftAfter mid more left' → 0 < length more → IfSome left HasLongHead
+head_too_long left lines front mid more left' before full unfinished came some =
+    if_some_before HasLongHead left ((print_blank lines ++ front) ++ more) left' (left_after left (print_blank lines ++ front) mid more left' before came) (each left')
   where
-    each : (o : Option (List ℕ)) → IfSome o (λ rest. HasLongHead (((print_blank lines ++ front) ++ b ∷ []) ++ rest))
+    each : (o : Option (List ℕ)) → IfSome o (λ rest. HasLongHead (((print_blank lines ++ front) ++ more) ++ rest))
     each None = tt
-    each (Some rest) = too_long_at lines front b rest full unfinished
+    each (Some rest) = too_long_at lines front more rest full unfinished some

@@ -63,11 +63,6 @@ Streams s left faults into (read.Took n) s' left' faults' = (0 < n) × (n ≤ le
 Streams s left faults into read.End s' left' faults' = EndsBy s left s' left' × NeverFell faults faults'
 Streams s left faults into read.Failed s' left' faults' = Goes s left [] s' left' × Rose faults faults'
 
--- the bytes that were read are fewer to come
-abbrev pub IsShorter : ReadStep → ℕ → ℕ → Type 0
-IsShorter (read.Took n) before now = n + now ≤ before
-IsShorter _ before now = now ≤ before
-
 -- The rest of a body was read, whatever it was. Where it ended so, this is how it was to end, and what is left is what follows
 -- it; where the source failed, both are as before.
 abbrev pub Finished : BodyState → Option (List ℕ) → Option Ending → BodyState → Option (List ℕ) → Type 0

@@ -3,6 +3,7 @@ pub mod BodyReading
 pub mod Chunk
 pub mod Chunked
 pub mod Framing
+pub mod Further
 pub mod Message
 pub mod Messages
 pub mod Options

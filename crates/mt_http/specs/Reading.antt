@@ -8,19 +8,11 @@ use Rattle.httparse.specs.Spans.{span_bytes}
 use Rattle.mt_base.specs.Counts.{Rose, NeverFell}
 use Rattle.mt_edge.specs.Stream.{LeftAfter}
 use Rattle.mt_types.specs.declared.object.Field.{Field}
-use Rattle.mt_http.specs.declared.head.ByteRead.{ByteRead}
-use Rattle.mt_http.specs.declared.head.ByteRead.TheVariants as byte
 use Rattle.mt_http.specs.declared.head.Taken.{Taken}
 use Rattle.mt_http.specs.declared.head.Taken.TheVariants as taken
 use Rattle.mt_http.specs.declared.head.HeadRead.{HeadRead}
 use Rattle.mt_http.specs.declared.head.HeadRead.TheVariants as head_read
 use Rattle.mt_http.specs.Framing.{head_limit, BeginsWithEmptyLine, EndsWithEmptyLine, IsHead, End, EndsInHead, HasLongHead, PlaceAt}
-
--- one more byte of a source
-abbrev pub ReadsByte : Option (List ℕ) → ℕ → ByteRead → Option (List ℕ) → ℕ → Type 0
-ReadsByte left faults (byte.Byte b) left' faults' = LeftAfter left (b ∷ []) left' × NeverFell faults faults'
-ReadsByte left faults byte.End left' faults' = IfSome left (λ bytes. bytes ≡ []) × NeverFell faults faults' × (left' ≡ left)
-ReadsByte left faults byte.Fault left' faults' = Rose faults faults' × (left' ≡ left)
 
 -- the first bytes of a head that is not whole yet
 pub record IsHeadFront (bytes : List ℕ) : Type 0 where

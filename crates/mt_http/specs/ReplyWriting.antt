@@ -13,6 +13,11 @@ WritesText got faults text (Ok _) got' faults' = GotMore got text got' × NeverF
 WritesText got faults text (Err reply_end.SinkFault) got' faults' = WritesFront got text got' × Rose faults faults'
 WritesText got faults text (Err reply_end.Memory) got' faults' = (got' ≡ got) × NeverFell faults faults'
 
+-- and what writing leaves alone stays
+pub record TextGoesOut {K : Type 0} (got : K → Option (List ℕ)) (count : K → ℕ) (alone : K → K → Type 0) (old new : K) (text : List ℕ) (result : Result (Unit {0}) ReplyEnd) : Type 0 where
+  pub writes : WritesText (got old) (count old) text result (got new) (count new)
+  pub stays : alone old new
+
 -- the field that a line lends
 abbrev pub field_of_line : Line → Field
 field_of_line line = record { name = line.name.now; value = line.value.now }

@@ -1,9 +1,10 @@
 //! The body of a message, held in memory.
 ghost use Rattle.std.specs.Prelude.{◌≡◌, ◌<◌, ◌≤◌, IsTrue, length, take, vec_len, IfOk, OnOk};
-ghost use Rattle.mt_http.specs.Body.{is_sound, most_left};
-ghost use Rattle.mt_http.specs.BodyReading.{Finishes, IsShorter, ReadsBehind};
+ghost use Rattle.mt_http.specs.Body.{is_sound};
+ghost use Rattle.mt_http.specs.BodyReading.{Finishes, ReadsBehind};
 ghost use Rattle.mt_http.specs.Framing.{ReceivesBody, body_of};
 ghost use Rattle.mt_http.specs.Framing as said;
+ghost use Rattle.mt_http.specs.Further.{FramerGoesOn, taken_by};
 
 use crate::message::{Ending, Head, MessageEnd};
 use crate::options::limit_of;
@@ -54,8 +55,7 @@ fn read_behind<S: Source>(
     requires { done < length body.old }
     ensures read { ReadsBehind done framer.old (S.left source.old) (S.read_faults source.old) body.old
         result framer.new (S.left source.new) (S.read_faults source.new) body.new }
-    ensures most { IsShorter result (most_left framer.old) (most_left framer.new) }
-    ensures stays { S.source_stays source.old source.new }
+    ensures goes_on { FramerGoesOn S.source_stays source.old source.new framer.old framer.new (taken_by result) }
 {
     read_framed(source, framer, &mut body[done..])
 }

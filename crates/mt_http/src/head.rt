@@ -2,7 +2,7 @@
 ghost use Rattle.std.specs.Prelude.{◌≡◌, ◌≢◌, ◌↔◌, ◌<◌, ◌+◌, ℕ, IsTrue, get_or, length};
 ghost use Rattle.httparse.specs.Grammar.{LineEnd, print_end};
 ghost use Rattle.mt_http.specs.Framing.{EndsWithEmptyLine};
-ghost use Rattle.mt_http.specs.Reading.{EndsAfter, IsHeadFront, ReadsByte, ReadsHead, TakesByte, TakesPiece};
+ghost use Rattle.mt_http.specs.Reading.{EndsAfter, IsHeadFront, ReadsHead, TakesByte, TakesPiece};
 
 use mt_edge::{ReadStep, Source};
 use std::alloc::Global;
@@ -15,28 +15,6 @@ const FIRST_ROOM: usize = 1_024;
 
 /// Lines are read by pieces of at most so many bytes, each within a line.
 pub(crate) const PIECE: usize = 256;
-
-/// What one more byte of a source was.
-#[derive(Clone, Copy)]
-pub(crate) enum ByteRead {
-    Byte(u8),
-    End,
-    Fault,
-}
-
-/// Reads one more byte.
-pub(crate) fn read_byte<S: Source>(source: &mut S) -> ByteRead
-    ensures stays { S.source_stays source.old source.new }
-    ensures read { ReadsByte (S.left source.old) (S.read_faults source.old)
-        result (S.left source.new) (S.read_faults source.new) }
-{
-    let mut one = [0];
-    match source.read(&mut one) {
-        ReadStep::Took(_) => ByteRead::Byte(one[0]),
-        ReadStep::End => ByteRead::End,
-        ReadStep::Failed => ByteRead::Fault,
-    }
-}
 
 /// How far a head has come.
 #[derive(Clone, Copy)]
@@ -152,9 +130,9 @@ pub fn find_head<S: Source>(alloc: Global, source: &mut S) -> HeadRead
             ReadStep::Failed => return HeadRead::SourceFault,
         }
     }
-    match read_byte(source) {
-        ByteRead::Byte(_) => HeadRead::TooLong,
-        ByteRead::End => ended(head.as_slice()),
-        ByteRead::Fault => HeadRead::SourceFault,
+    match source.read(&mut piece[..1]) {
+        ReadStep::Took(_) => HeadRead::TooLong,
+        ReadStep::End => ended(head.as_slice()),
+        ReadStep::Failed => HeadRead::SourceFault,
     }
 }

@@ -4,7 +4,7 @@ ghost use Rattle.std.specs.List.{flat_map};
 ghost use Rattle.mt_edge.specs.Stream.{WritesAll};
 ghost use Rattle.mt_http.specs.Options.{interim_line};
 ghost use Rattle.mt_http.specs.ReplyText.{IsHeld, closing_fields, field_line, fields_with, has_no_body, head_text, held_bytes, in_order, length_fields, phrase_of, placed, status_line, text_with};
-ghost use Rattle.mt_http.specs.ReplyWriting.{WritesText, field_of_line, fields_of_lines};
+ghost use Rattle.mt_http.specs.ReplyWriting.{TextGoesOut, WritesText, field_of_line, fields_of_lines};
 
 use mt_bytes::put_decimal;
 use mt_edge::{Sink, SinkFault, write_all};
@@ -203,9 +203,7 @@ fn text_of_head<B>(alloc: Global, reply: &Reply<B>, size: u64) -> Result<Vec<u8>
 
 // Writes a text whole.
 fn write_text<K: Sink>(sink: &mut K, text: &[u8]) -> Result<(), ReplyEnd>
-    ensures writes { WritesText (K.got sink.old) (K.write_faults sink.old) text.now
-        result (K.got sink.new) (K.write_faults sink.new) }
-    ensures stays { K.sink_stays sink.old sink.new }
+    ensures { TextGoesOut K.got K.write_faults K.sink_stays sink.old sink.new text.now result }
 {
     match write_all(sink, text) {
         Ok(()) => Ok(()),
@@ -277,9 +275,7 @@ pub fn write_reply<K: Sink, B>(
 
 // Writes a text and then another.
 fn write_both<K: Sink>(sink: &mut K, text: &[u8], body: &[u8]) -> Result<(), ReplyEnd>
-    ensures writes { WritesText (K.got sink.old) (K.write_faults sink.old) (text.now ++ body.now)
-        result (K.got sink.new) (K.write_faults sink.new) }
-    ensures stays { K.sink_stays sink.old sink.new }
+    ensures { TextGoesOut K.got K.write_faults K.sink_stays sink.old sink.new (text.now ++ body.now) result }
 {
     match write_all(sink, text) {
         Ok(()) => match write_all(sink, body) {

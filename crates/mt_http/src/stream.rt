@@ -1,8 +1,9 @@
 //! The body of a message as a source.
-ghost use Rattle.std.specs.Prelude.{◌≡◌, ◌<◌, ◌≤◌, ℕ, length, IfNone};
+ghost use Rattle.std.specs.Prelude.{◌≡◌, ◌<◌, length, None};
 ghost use Rattle.mt_base.specs.Counts.{NeverFell, Rose};
-ghost use Rattle.mt_http.specs.Body.{data_left, ended, first_state, most_left};
-ghost use Rattle.mt_http.specs.BodyReading.{Finished, IsShorter, Reaches, Streams, after_body, body_left};
+ghost use Rattle.mt_http.specs.Body.{data_left, ended, first_state};
+ghost use Rattle.mt_http.specs.BodyReading.{Finished, Reaches, Streams, after_body, body_left};
+ghost use Rattle.mt_http.specs.Further.{BodyGoesOn, FramerGoesOn, taken_by};
 
 use crate::framing::Framing;
 use crate::head::PIECE;
@@ -28,8 +29,7 @@ pub(crate) enum Reached {
 fn reach_data<S: Source>(source: &mut S, framer: &mut Framer) -> Reached
     ensures reached { Reaches framer.old (S.left source.old) (S.read_faults source.old)
         result framer.new (S.left source.new) (S.read_faults source.new) }
-    ensures most { most_left framer.new ≤ most_left framer.old }
-    ensures stays { S.source_stays source.old source.new }
+    ensures goes_on { FramerGoesOn S.source_stays source.old source.new framer.old framer.new 0 }
 {
     let mut piece = [0; PIECE];
     loop {
@@ -57,8 +57,7 @@ fn read_data<S: Source>(source: &mut S, framer: &mut Framer, into: &mut [u8], le
     requires next { data_left framer.old.stage ≡ left }
     ensures streams { Streams framer.old (S.left source.old) (S.read_faults source.old) into.new
         result framer.new (S.left source.new) (S.read_faults source.new) }
-    ensures most { IsShorter result (most_left framer.old) (most_left framer.new) }
-    ensures stays { S.source_stays source.old source.new }
+    ensures goes_on { FramerGoesOn S.source_stays source.old source.new framer.old framer.new (taken_by result) }
 {
     let most = left.min(into.len() as u64) as usize;
     match source.read(&mut into[..most]) {
@@ -83,8 +82,7 @@ pub(crate) fn read_framed<S: Source>(
     requires { 0 < length into.old }
     ensures streams { Streams framer.old (S.left source.old) (S.read_faults source.old) into.new
         result framer.new (S.left source.new) (S.read_faults source.new) }
-    ensures most { IsShorter result (most_left framer.old) (most_left framer.new) }
-    ensures stays { S.source_stays source.old source.new }
+    ensures goes_on { FramerGoesOn S.source_stays source.old source.new framer.old framer.new (taken_by result) }
 {
     match reach_data(source, framer) {
         Reached::Data(left) => read_data(source, framer, into, left),
@@ -96,9 +94,9 @@ pub(crate) fn read_framed<S: Source>(
 // Reads the rest of a body and drops it, and tells how it ended.
 fn drop_rest<S: Source>(source: &mut S, framer: &mut Framer) -> Option<Ending>
     ensures ended { Finished framer.old (S.left source.old) result framer.new (S.left source.new) }
-    ensures failed { IfNone result (Rose (S.read_faults source.old) (S.read_faults source.new)) }
+    ensures failed { result ≡ None → Rose (S.read_faults source.old) (S.read_faults source.new) }
     ensures faults { NeverFell (S.read_faults source.old) (S.read_faults source.new) }
-    ensures stays { S.source_stays source.old source.new }
+    ensures goes_on { FramerGoesOn S.source_stays source.old source.new framer.old framer.new 0 }
 {
     let mut dropped = [0; DROPPED];
     'rest: loop {
@@ -141,10 +139,7 @@ impl<'a, S: Source> BodyStream<'a, S> {
     /// the source failed; the rest of the body is still to be read. It takes no memory.
     pub fn finish(&mut self) -> Option<Ending>
         ensures ended { Finished self.old.framer (S.left self.old.source.now) result self.new.framer (S.left self.new.source.now) }
-        ensures failed { IfNone result (Rose (S.read_faults self.old.source.now) (S.read_faults self.new.source.now)) }
-        ensures faults { NeverFell (S.read_faults self.old.source.now) (S.read_faults self.new.source.now) }
-        ensures source { self.new.source.ghost_name ≡ self.old.source.ghost_name }
-        ensures stays { S.source_stays self.old.source.now self.new.source.now }
+        ensures body { BodyGoesOn S.left S.read_faults S.source_stays self.old self.new (result ≡ None) }
     {
         drop_rest(self.source, &mut self.framer)
     }

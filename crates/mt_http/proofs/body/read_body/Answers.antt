@@ -20,9 +20,9 @@ loop-body-preserved g c =
     let goes = goes_on _ _ _ _ _ _ _ _ kept.2 read.2.1 in
     let all = ap (take (c.loop-body.done + n)) items ∙ front in (
       rw items (omega (arith, read.1)),
-      omega (arith, kept.1, c.in-Took.ensures.most),
+      omega (arith, kept.1, c.in-Took.ensures.goes_on.fewer),
       subst (λ (xs : List ℕ). Goes (first_state c.args.head.now.framing (limit_of c.args.head.now)) (g.S.Source.left c.args.source.now) xs c.read_behind.new.framer (g.S.Source.left c.read_behind.new.source)) (sym all) goes,
-      g.met.S.Source.source_joined _ _ _ kept.3 c.in-Took.ensures.stays,
+      g.met.S.Source.source_joined _ _ _ kept.3 c.in-Took.ensures.goes_on.stays,
       omega (arith, kept.4, read.3),
     )
 

@@ -22,17 +22,17 @@ returns-in-End-clause-read g c =
     head_ended _ _ l.so_far.0 c.pieces.head.items c.ended.result _ _ l.so_far.1 (omega (arith, l.so_far.2, l.within)) l.front ended.0 (omega (arith, l.faults, ended.2))
     (rw c.as_slice.ensures.value at c.ended.ensures) _
 
-pub returns-in-Byte-clause-read : goal.returns-in-Byte-clause-read
-returns-in-Byte-clause-read g c =
+pub returns-in-Took-read-clause-read : goal.returns-in-Took-read-clause-read
+returns-in-Took-read-clause-read g c =
     let l = c.pieces.invariant in
-    let byte = c.in-Byte.ensures.read in (
-      head_too_long _ l.so_far.0 c.pieces.head.items _ c.in-Byte.field-0 _ l.so_far.1 (omega (arith, l.so_far.2, l.within, c.pieces-test.false)) l.front byte.0,
-      omega (arith, l.faults, byte.1),
+    let took = c.in-Took-read.ensures.reads in (
+      head_too_long _ l.so_far.0 c.pieces.head.items _ _ _ l.so_far.1 (omega (arith, l.so_far.2, l.within, c.pieces-test.false)) l.front took.2 (omega (arith, took.0, took.1, length-take {A = ℕ})),
+      omega (arith, l.faults, took.3),
     )
 
-pub returns-in-End-read_byte-clause-read : goal.returns-in-End-read_byte-clause-read
-returns-in-End-read_byte-clause-read g c =
+pub returns-in-End-read-clause-read : goal.returns-in-End-read-clause-read
+returns-in-End-read-clause-read g c =
     let l = c.pieces.invariant in
-    let ended = c.in-End-read_byte.ensures.read in
-    head_ended _ _ l.so_far.0 c.pieces.head.items c.ended-in-End-read_byte.result _ _ l.so_far.1 (omega (arith, l.so_far.2, l.within)) l.front ended.0 (omega (arith, l.faults, ended.1))
-    (rw c.as_slice-in-End-read_byte.ensures.value at c.ended-in-End-read_byte.ensures) _
+    let ended = c.in-End-read.ensures.reads in
+    head_ended _ _ l.so_far.0 c.pieces.head.items c.ended-in-End-read.result _ _ l.so_far.1 (omega (arith, l.so_far.2, l.within)) l.front ended.0 (omega (arith, l.faults, ended.2))
+    (rw c.as_slice-in-End-read.ensures.value at c.ended-in-End-read.ensures) _

@@ -1,5 +1,5 @@
 -- All but the last byte go on with the head; the last one may end it.
-use Rattle.std.proofs.Common.{◌≡◌, ◌++◌, ◌∷◌, [], List, ℕ, ap, sym, subst, ◌∙◌, append_assoc, ◌-◌, length, take, get_or}
+use Rattle.std.proofs.Common.{◌++◌, ◌∷◌, [], List, ℕ, ap, sym, subst, ◌∙◌, append_assoc, ◌-◌, length, take, get_or}
 use Rattle.mt_http.specs.Reading.{IsHeadFront}
 use Rattle.mt_http.proofs.EndsWith.{front_most, last_of_piece, piece_taken}
 use Rattle.mt_http.proofs.head.take_piece.Goals as goal

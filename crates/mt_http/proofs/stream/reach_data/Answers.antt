@@ -1,7 +1,7 @@
-use Rattle.std.proofs.Common.{◌≡◌, false, true, [], None, List, ℕ, Option, arith, length, sym, subst, take, rules}
+use Rattle.std.proofs.Common.{◌≡◌, true, [], None, List, ℕ, Option, arith, length, sym, subst, take, rules}
 use Rattle.std.proofs.lemmas.List.{length-take-le}
 use Rattle.std.specs.Prelude.{IfSome}
-use Rattle.mt_http.specs.Body.{BodyState, is_data, is_sound, ended}
+use Rattle.mt_http.specs.Body.{BodyState, is_sound, ended}
 use Rattle.mt_http.specs.declared.stage.Stage.{Stage}
 use Rattle.mt_http.specs.BodyReading.{Goes, EndsBy}
 use Rattle.mt_http.proofs.BodyPieces.{HasRoom, goes_by_piece, line_front, nearer_by_piece}
@@ -17,9 +17,8 @@ returns-in-End g c =
     let cut = ends_cut c.loop-left.framer _ _ open_yet none read.1 in
     let here = subst (λ (s : BodyState). EndsBy c.loop-left.framer (g.S.Source.left c.loop-left.source) s (g.S.Source.left c.read_line.new.self)) (sym c.cut.ensures) cut in
     record {
-      reached = (ends_on _ _ c.loop-left.framer _ c.cut.new.self _ kept.0 here, omega (arith, kept.3, read.2));
-      most = search rules;
-      stays = g.met.S.Source.source_joined _ _ _ kept.2 c.in-End.ensures.stays;
+      reached = (ends_on _ _ c.loop-left.framer _ c.cut.new.self _ kept.0 here, omega (arith, kept.2, read.2));
+      goes_on = record { stays = g.met.S.Source.source_joined _ _ _ kept.1.stays c.in-End.ensures.stays; fewer = search rules };
     }
 
 pub loop-left-smaller : goal.loop-left-smaller
@@ -46,7 +45,9 @@ loop-left-preserved g c =
     let step = goes_by_piece c.loop-left.framer _ piece _ room line reads.2 in
     let here = subst (λ (s : BodyState). Goes c.loop-left.framer (g.S.Source.left c.loop-left.source) [] s (g.S.Source.left c.read_line.new.self)) (sym c.take_piece.ensures) step in (
       goes_on _ _ [] c.loop-left.framer _ [] c.take_piece.new.self _ kept.0 here,
-      rw c.take_piece.ensures (omega (arith, near.1, kept.1)),
-      g.met.S.Source.source_joined _ _ _ kept.2 c.in-Took.ensures.stays,
-      omega (arith, kept.3, reads.3),
+      record {
+        stays = g.met.S.Source.source_joined _ _ _ kept.1.stays c.in-Took.ensures.stays;
+        fewer = rw c.take_piece.ensures (omega (arith, near.1, kept.1.fewer));
+      },
+      omega (arith, kept.2, reads.3),
     )
