@@ -822,4 +822,5 @@ def main():
     texts()
 
 
-main()
+if __name__ == "__main__":
+    main()

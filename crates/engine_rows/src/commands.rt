@@ -1,13 +1,18 @@
 //! The rows that end a run with a command, or without.
-ghost use Rattle.std.specs.Prelude.{◌≡◌, IfOk, IsTrue};
+ghost use Rattle.std.specs.Prelude.{IfOk, IsTrue};
+ghost use Rattle.mt_account.specs.Taken.{IsTaken};
 ghost use Rattle.mt_codec.specs.Spelling.{IsWithinLimits};
-ghost use Rattle.mt_types.specs.Kinds.{OnRows, kind_of};
+ghost use Rattle.mt_engine.specs.Ready.{RunGoesOn};
+ghost use Rattle.mt_types.specs.Kinds.{kind_of};
 ghost use Rattle.mt_types.specs.Limits.{is_moment};
 
+use crate::{closing, jobs};
 use md5::{Digest, Md5};
 use mt_body::Storing;
+use mt_disk::Disk;
 use mt_edge::MemSource;
 use mt_engine::{Accepted, Engine};
+use mt_log::Run;
 use mt_rows::{Row, Stop};
 use mt_types::{Body, Command, Fields, LAST_MOMENT, Path, Text, is_content_type};
 use mt_untold::Untold;
@@ -24,8 +29,8 @@ pub fn path_at(alloc: Global, row: &Row, place: usize) -> Result<Path, Stop> {
     }
 }
 
-// A moment that a command may have.
-fn moment_at(row: &Row, place: usize) -> Result<u64, Stop>
+/// A moment that a command may have.
+pub fn moment_at(row: &Row, place: usize) -> Result<u64, Stop>
     ensures { IfOk result (λ m. IsTrue (is_moment m)) }
 {
     match row.number(place)? {
@@ -34,8 +39,8 @@ fn moment_at(row: &Row, place: usize) -> Result<u64, Stop>
     }
 }
 
-// So many bytes, no two pieces of which are alike.
-fn pattern(alloc: Global, len: usize) -> Result<Vec<u8>, AllocError> {
+/// So many bytes, no two pieces of which are alike.
+pub fn pattern(alloc: Global, len: usize) -> Result<Vec<u8>, AllocError> {
     let mut bytes = Vec::with_capacity(alloc, len)?;
     for i in 0..len {
         bytes.push(((i % 251) ^ (i / 256 % 256)) as u8)?;
@@ -46,7 +51,7 @@ fn pattern(alloc: Global, len: usize) -> Result<Vec<u8>, AllocError> {
 // A put of a body as a text.
 fn put_of(alloc: Global, path: Path, body: Body, moment: u64) -> Result<Command<Body>, Stop>
     requires { IsTrue (is_moment moment) }
-    ensures kind { IfOk result (λ c. kind_of c ≡ OnRows) }
+    ensures kind { IfOk result (λ c. IsTaken (kind_of c)) }
     ensures limits { IfOk result (λ c. IsWithinLimits c) }
 {
     let content_type = Text::from_str(alloc, "text/plain")?;
@@ -96,15 +101,61 @@ fn put(
             let answer = engine.accept(alloc, disk, run, command);
             Ok(write!(out, "{answer:?}")?)
         }
-        other => {
-            write!(out, "{other:?}")?;
-            if !engine.is_closed() {
-                let end = engine.end_run(disk, run);
-                write!(out, ", {end:?}")?;
-            }
-            Ok(())
-        }
+        other => put_unstored(disk, engine, run, &other, out),
     }
+}
+
+/// What became of a body that isn't stored whole, and of its run.
+pub fn put_unstored<D: Disk>(
+    disk: &mut D,
+    engine: &mut Engine,
+    run: Run,
+    stored: &Storing,
+    out: &mut String,
+) -> Result<(), Stop>
+    requires { RunGoesOn D.seen D.may_leave disk.old engine.old run }
+{
+    write!(out, "{stored:?}")?;
+    if !engine.is_closed() {
+        let end = engine.end_run(disk, run);
+        write!(out, ", {end:?}")?;
+    }
+    Ok(())
+}
+
+// `give-up PATH COUNT`: so many bytes are stored, and the run is given up.
+fn give_up(
+    alloc: Global,
+    disk: &mut Untold,
+    engine: &mut Engine,
+    row: &Row,
+    out: &mut String,
+) -> Result<(), Stop> {
+    if engine.is_closed() || engine.is_old() {
+        return Err(Stop::NoSuchRow);
+    }
+    let mut source = source_at(alloc, row)?;
+    let mut sum = Md5::new();
+    let mut run = engine.begin_run(disk);
+    let stored = engine.store_body(alloc, disk, &mut run, &mut source, &mut sum);
+    write!(out, "{stored:?}")?;
+    put_dropped(disk, engine, run, out)
+}
+
+/// What becomes of a run that is given up, where the engine is open.
+pub fn put_dropped<D: Disk>(
+    disk: &mut D,
+    engine: &mut Engine,
+    run: Run,
+    out: &mut String,
+) -> Result<(), Stop>
+    requires { RunGoesOn D.seen D.may_leave disk.old engine.old run }
+{
+    if !engine.is_closed() {
+        let end = engine.drop_run(disk, run);
+        write!(out, ", {end:?}")?;
+    }
+    Ok(())
 }
 
 // A command without a body.
@@ -115,7 +166,7 @@ fn accept(
     command: Command<Body>,
     out: &mut String,
 ) -> Result<(), Stop>
-    requires kind { kind_of command ≡ OnRows }
+    requires kind { IsTaken (kind_of command) }
     requires limits { IsWithinLimits command }
 {
     if engine.is_old() {
@@ -184,6 +235,10 @@ pub fn answer(
 ) -> Result<bool, Stop> {
     match row.text(0)? {
         "put" => put(alloc, disk, engine, row, out)?,
+        "command" => jobs::command(alloc, disk, engine, row, out)?,
+        "give-up" => give_up(alloc, disk, engine, row, out)?,
+        "texts" => closing::texts(alloc, disk, engine, row, out)?,
+        "close" => closing::close(alloc, disk, engine, row, out)?,
         "directory" => make_directory(alloc, disk, engine, row, out)?,
         "link" => link(alloc, disk, engine, row, out)?,
         "delete" => delete(alloc, disk, engine, row, out)?,

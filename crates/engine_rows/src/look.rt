@@ -2,6 +2,7 @@
 ghost use Rattle.std.specs.Prelude.{◌≡◌, IfOk, length};
 
 use crate::commands::path_at;
+use crate::jobs::{put_job, put_room};
 use md5::{Digest, Md5};
 use mt_edge::MemSink;
 use mt_engine::Engine;
@@ -20,7 +21,12 @@ const ALL: usize = 1_000;
 /// Appends how many bytes, and their digest.
 pub fn put_bytes(out: &mut String, bytes: &[u8]) -> Result<(), AllocError> {
     write!(out, "{} bytes ", bytes.len())?;
-    for byte in &Md5::digest(bytes) {
+    put_digest(out, &Md5::digest(bytes))
+}
+
+/// Appends a digest.
+pub fn put_digest(out: &mut String, digest: &[u8; 16]) -> Result<(), AllocError> {
+    for byte in digest {
         write!(out, "{byte:02x}")?;
     }
     Ok(())
@@ -132,6 +138,8 @@ pub fn answer(
     match row.text(0)? {
         "at" => put_entry(alloc, engine, row, out),
         "rows" => put_rows(alloc, engine.tree(), out),
+        "job" => put_job(engine, row, out),
+        "room" => put_room(alloc, engine, row, out),
         "send" => put_sent(alloc, disk, engine, row, out),
         "part" => put_part(alloc, disk, engine, row, out),
         _ => Err(Stop::NoSuchRow),

@@ -1,4 +1,5 @@
 pub mod Filling
+pub mod Growth
 pub mod Sending
 pub mod Stored
 pub mod Storing

@@ -1,9 +1,10 @@
 -- What a call that ends a run with a command leaves at each moment.
-use Rattle.std.proofs.Common.{◌≡◌, ◌≤◌, ◌⊎◌, ℕ, inl, inr, List, [], ◌∷◌, ◌++◌, length, Option, Some, None, Result, Ok, refl, arith}
+use Rattle.std.proofs.Common.{◌≡◌, ◌≢◌, ◌⊎◌, ℕ, inl, inr, List, [], ◌∷◌, ◌++◌, length, Option, Some, None, Result, Ok, Err, refl, sym}
+use Rattle.std.proofs.lemmas.Option.{none-some}
 use Rattle.std.specs.Option.{ForSome}
+use Rattle.mt_codec.specs.Pieces.{blank_body, spelled_size}
 use Rattle.mt_codec.specs.Spelling.{HasSpelling, spelling}
-use Rattle.mt_codec.specs.Pieces.{size_bound}
-use Rattle.mt_codec.proofs.Sizes.{command_size}
+use Rattle.mt_codec.proofs.SizesRead.{same_size}
 use Rattle.mt_disk.specs.Files.{Files}
 use Rattle.mt_disk.specs.CrashModel.{LeavesOnly}
 use Rattle.mt_log.specs.LogImage.{IsBeforeOrAfter}
@@ -13,18 +14,17 @@ use Rattle.mt_body.specs.Stored.{IsStored, bytes_of}
 use Rattle.mt_model.specs.Bodies.{OfCommand}
 use Rattle.mt_model.specs.State.{State}
 use Rattle.mt_tree.specs.Answer.{answer}
-use Rattle.mt_types.specs.Kinds.{OnEnds, OnJobs, OnRows, OnUploads, kind_of}
+use Rattle.mt_types.specs.Kinds.{kind_of}
 use Rattle.mt_types.specs.Values.{command_with}
 use Rattle.mt_types.specs.declared.body.Body.{Body}
 use Rattle.mt_types.specs.declared.command.Command.{Command}
-use Rattle.mt_types.specs.declared.command.Command.TheVariants.{Put, MakeDirectory, Link, Delete, NewJob, AddInputs, EndInput, Commit, Finish, Cancel, Close, NewUpload, PutPart, CommitUpload, AbortUpload}
 use Rattle.mt_types.specs.declared.refusal.Refusal.{Refusal}
+use Rattle.mt_account.specs.Taken.{IsTaken}
 use Rattle.mt_engine.specs.Accepting.{Reaches, Takes}
 use Rattle.mt_engine.specs.Current.{EngineState, IsBetween, IsWriting}
 use Rattle.mt_engine.specs.History.{Bytes, HasHistory, History}
 use Rattle.mt_engine.specs.declared.engine.Accepted.{Accepted}
 use Rattle.mt_engine.specs.declared.engine.Accepted.TheVariants as accepted
-use Rattle.mt_engine.proofs.Commands.{not_rows}
 use Rattle.mt_engine.proofs.Ends.{command_leaves, goes_on_leaves, only_before}
 
 module _ {D : Type 0} (seen : D → Option Files) (may_leave : D → Files → Type 0) (moment : D → ℕ) (left_since : D → ℕ → Files → Type 0) where
@@ -43,35 +43,28 @@ module _ {D : Type 0} (moment : D → ℕ) (left_since : D → ℕ → Files →
   none_added any base h qs w stored = (h, inl refl, only_before moment left_since old new seen engine run base h qs w (any base h qs w))
 
   -- the command was, or the disk failed
-  pub one_added : kind_of c ≡ OnRows → HasSpelling c → Takes engine run c → (result ≡ accepted.Added) ⊎ (result ≡ accepted.Disk)
+  pub one_added : IsTaken (kind_of c) → HasSpelling c → Takes engine run c → (result ≡ accepted.Added) ⊎ (result ≡ accepted.Disk)
       → ForSome seen (λ files. (records : List (List ℕ)) → HasTaken seen engine.log run records → LeavesOnly moment left_since old new (IsBeforeOrAfter files (records ++ spelling c ∷ [])))
       → (base : State Bytes) (h : History) (qs : List (List ℕ)) → IsWriting seen engine run base h qs → OfCommand (IsStored qs) c
       → (k : History) × Reaches result engine run c (command_with (bytes_of qs) c) h k × LeavesOnly moment left_since old new (IsBetween base h k)
   one_added kind fits takes how any base h qs w stored =
       (h ++ command_with (bytes_of qs) c ∷ [], inr (refl, takes, how), command_leaves moment left_since old new seen engine run base h qs w c kind fits stored takes any)
 
--- a command on rows is short
-bound : (c : Command Body) → kind_of c ≡ OnRows → size_bound c ≤ 8192
-bound (Put path content_type body durability metadata moment) kind = omega arith
-bound (MakeDirectory path moment) kind = omega arith
-bound (Link path source moment) kind = omega arith
-bound (Delete path moment) kind = omega arith
-bound (NewJob document moment) kind = absurd (not_rows OnJobs kind)
-bound (AddInputs job lines moment) kind = absurd (not_rows OnJobs kind)
-bound (EndInput job moment) kind = absurd (not_rows OnJobs kind)
-bound (Commit job phase place fate moment) kind = absurd (not_rows OnJobs kind)
-bound (Finish job moment) kind = absurd (not_rows OnEnds kind)
-bound (Cancel job moment) kind = absurd (not_rows OnEnds kind)
-bound (Close job cancelled archive moment) kind = absurd (not_rows OnEnds kind)
-bound (NewUpload path content_type moment) kind = absurd (not_rows OnUploads kind)
-bound (PutPart upload index body moment) kind = absurd (not_rows OnUploads kind)
-bound (CommitUpload upload parts body moment) kind = absurd (not_rows OnUploads kind)
-bound (AbortUpload upload moment) kind = absurd (not_rows OnUploads kind)
-
-pub short : (c : Command Body) → kind_of c ≡ OnRows → HasSpelling c → length (spelling c) ≤ 8192
-short c kind fits = omega (arith, command_size c fits, bound c kind)
-
 -- what is answered well is allowed
 pub none_refused : (refusal : Option Refusal) (r : Result (Unit {0}) Refusal) (u : Unit {0}) → r ≡ Ok u → r ≡ answer refusal → refusal ≡ None
 none_refused None r u is so = refl
 none_refused (Some refusal) r u is so = absurd (cc (is, so))
+
+-- what an answer says of the refusal
+pub none_answered : (r : Option Refusal) → Ok tt ≡ answer r → r ≡ None
+none_answered None is = refl
+none_answered (Some x) is = cc
+
+pub some_answered : (r : Option Refusal) (x : Refusal) → Err x ≡ answer r → r ≢ None
+some_answered None x is = cc
+some_answered (Some y) x is = λ e. none-some y (sym e)
+
+-- how long a command is, whatever its bodies are
+pub size_is : (c : Command Body) → length (spelling c) ≡ spelled_size c
+unfolding spelled_size
+size_is c = sym (same_size (λ b. blank_body) c)

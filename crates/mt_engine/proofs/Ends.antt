@@ -15,10 +15,11 @@ use Rattle.mt_log.proofs.Walks.{read_by}
 use Rattle.mt_body.specs.Stored.{IsStored, bytes_of}
 use Rattle.mt_model.specs.Bodies.{OfCommand}
 use Rattle.mt_model.specs.State.{State}
-use Rattle.mt_types.specs.Kinds.{OnRows, kind_of}
+use Rattle.mt_types.specs.Kinds.{kind_of}
 use Rattle.mt_types.specs.Values.{command_with}
 use Rattle.mt_types.specs.declared.body.Body.{Body}
 use Rattle.mt_types.specs.declared.command.Command.{Command}
+use Rattle.mt_account.specs.Taken.{IsTaken}
 use Rattle.mt_engine.specs.Accepting.{Takes, with_command, with_run}
 use Rattle.mt_engine.specs.Current.{EngineState, IsBetween, IsCurrent, IsWriting}
 use Rattle.mt_engine.specs.History.{Bytes, HasHistory, History, IsHistoryOf}
@@ -64,7 +65,7 @@ module _ {D : Type 0} (moment : D → ℕ) (left_since : D → ℕ → Files →
       (any i.is_read.files i.is_read.seen_is w.records w.taken)
 
   -- and with a command
-  pub command_leaves : (c : Command Body) → kind_of c ≡ OnRows → HasSpelling c → OfCommand (IsStored qs) c → Takes engine run c
+  pub command_leaves : (c : Command Body) → IsTaken (kind_of c) → HasSpelling c → OfCommand (IsStored qs) c → Takes engine run c
       → ForSome seen (λ files. (records : List (List ℕ)) → HasTaken seen engine.log run records → LeavesOnly moment left_since old new (IsBeforeOrAfter files (records ++ spelling c ∷ [])))
       → LeavesOnly moment left_since old new (IsBetween base h (h ++ command_with (bytes_of qs) c ∷ []))
   command_leaves c kind fits stored takes any =
@@ -99,7 +100,7 @@ module _ (leaves : Files → Type 0) (seen seen' : Option Files) (engine engine'
       stands_at (with_run engine run) h qs is i.is_read.is_open i.version (more ∙ ap (with_payloads w.records) (told_now seen engine base h i) ∙ ap (λ (x : List (List ℕ)). Some x) (sym w.all)) stands holds
 
   -- and with a command
-  pub added_current : (c : Command Body) → kind_of c ≡ OnRows → HasSpelling c → OfCommand (IsStored qs) c → Takes engine run c
+  pub added_current : (c : Command Body) → IsTaken (kind_of c) → HasSpelling c → OfCommand (IsStored qs) c → Takes engine run c
       → told seen' ≡ with_payloads (w.records ++ spelling c ∷ []) (told seen) → engine' ≡ with_command engine run c
       → (engine'.log.closed ≡ false → ForSome seen' (λ files. Only files leaves × IsLogOf files engine'.log.file engine'.log.gate engine'.log.is_old))
       → IsCurrent seen' engine' base (h ++ command_with (bytes_of qs) c ∷ [])

@@ -2,7 +2,7 @@
 use Rattle.std.proofs.Common.{◌≡◌, ◌<◌, ℕ, true, false, inr, List, [], ◌∷◌, ◌++◌, length, Option, Some, None, refl, sym, ap, ◌∙◌, subst}
 use Rattle.std.specs.List.{list_all}
 use Rattle.mt_codec.specs.Pieces.{is_piece}
-use Rattle.mt_codec.specs.Spelling.{HasSpelling, spelling, undigested}
+use Rattle.mt_codec.specs.Spelling.{HasSpelling, spelling, undigested, undigested_body}
 use Rattle.mt_codec.proofs.Weaker.{digests_apart, within_limits}
 use Rattle.mt_disk.specs.Files.{Files}
 use Rattle.mt_log.specs.LogImage.{IsLogOf, payloads_of}
@@ -16,98 +16,39 @@ use Rattle.mt_model.specs.CommandStep.{allowed, replay, step}
 use Rattle.mt_model.specs.State.{State}
 use Rattle.mt_model.proofs.Agree.{state-agree}
 use Rattle.mt_model.proofs.Held.{state_weaker}
-use Rattle.mt_model.proofs.Keeping.{of_step}
 use Rattle.mt_model.proofs.Maps.{same_function}
 use Rattle.mt_model.proofs.Replays.{replay_more}
 use Rattle.mt_model.proofs.StepsWith.{allowed-with, step-with}
-use Rattle.mt_types.specs.Kinds.{OnEnds, OnJobs, OnRows, OnUploads, kind_of}
+use Rattle.mt_model.proofs.Stored.{of_each_step}
+use Rattle.mt_types.specs.Kinds.{kind_of}
 use Rattle.mt_types.specs.Values.{command_with}
 use Rattle.mt_types.specs.declared.body.Body.{Body}
 use Rattle.mt_types.specs.declared.command.Command.{Command}
-use Rattle.mt_types.specs.declared.command.Command.TheVariants.{Put, MakeDirectory, Link, Delete, NewJob, AddInputs, EndInput, Commit, Finish, Cancel, Close, NewUpload, PutPart, CommitUpload, AbortUpload}
 use Rattle.mt_types.specs.declared.limits.TheConstants.{MOST_COMMANDS}
 use Rattle.mt_engine.specs.Current.{EngineState, IsCurrent, IsWriting}
 use Rattle.mt_engine.specs.History.{Bytes, History, IsHistoryOf, Tells}
-use Rattle.mt_engine.proofs.Commands.{not_rows, size_of}
+use Rattle.mt_account.specs.Taken.{IsTaken}
+use Rattle.mt_account.proofs.Commands.{size_of}
+use Rattle.mt_engine.proofs.Bodies.{command_agrees, command_twice, kind_with, of_command, of_with, plain_fits, plain_twice}
 use Rattle.mt_engine.proofs.Histories.{history_more, history_pieces}
-
-module _ {A : Type 0} where
-  -- what a command on rows brings
-  pub of_rows : (P Q : A → Type 0) → ((x : A) → P x → Q x) → (c : Command A) → kind_of c ≡ OnRows → OfCommand P c → OfCommand Q c
-  of_rows P Q each (Put path content_type body durability metadata moment) kind is = each body is
-  of_rows P Q each (MakeDirectory path moment) kind is = tt
-  of_rows P Q each (Link path source moment) kind is = tt
-  of_rows P Q each (Delete path moment) kind is = tt
-  of_rows P Q each (NewJob document moment) kind is = absurd (not_rows OnJobs kind)
-  of_rows P Q each (AddInputs job lines moment) kind is = absurd (not_rows OnJobs kind)
-  of_rows P Q each (EndInput job moment) kind is = absurd (not_rows OnJobs kind)
-  of_rows P Q each (Commit job phase place fate moment) kind is = absurd (not_rows OnJobs kind)
-  of_rows P Q each (Finish job moment) kind is = absurd (not_rows OnEnds kind)
-  of_rows P Q each (Cancel job moment) kind is = absurd (not_rows OnEnds kind)
-  of_rows P Q each (Close job cancelled archive moment) kind is = absurd (not_rows OnEnds kind)
-  of_rows P Q each (NewUpload path content_type moment) kind is = absurd (not_rows OnUploads kind)
-  of_rows P Q each (PutPart upload index body moment) kind is = absurd (not_rows OnUploads kind)
-  of_rows P Q each (CommitUpload upload parts body moment) kind is = absurd (not_rows OnUploads kind)
-  of_rows P Q each (AbortUpload upload moment) kind is = absurd (not_rows OnUploads kind)
-
-  -- two readings that agree on what it brings give one command
-  rows_agree : {B : Type 0} (f g : A → B) (c : Command A) → kind_of c ≡ OnRows → OfCommand (λ b. f b ≡ g b) c → command_with f c ≡ command_with g c
-  rows_agree f g (Put path content_type body durability metadata moment) kind is = ap (λ b. Put path content_type b durability metadata moment) is
-  rows_agree f g (MakeDirectory path moment) kind is = refl
-  rows_agree f g (Link path source moment) kind is = refl
-  rows_agree f g (Delete path moment) kind is = refl
-  rows_agree f g (NewJob document moment) kind is = absurd (not_rows OnJobs kind)
-  rows_agree f g (AddInputs job lines moment) kind is = absurd (not_rows OnJobs kind)
-  rows_agree f g (EndInput job moment) kind is = absurd (not_rows OnJobs kind)
-  rows_agree f g (Commit job phase place fate moment) kind is = absurd (not_rows OnJobs kind)
-  rows_agree f g (Finish job moment) kind is = absurd (not_rows OnEnds kind)
-  rows_agree f g (Cancel job moment) kind is = absurd (not_rows OnEnds kind)
-  rows_agree f g (Close job cancelled archive moment) kind is = absurd (not_rows OnEnds kind)
-  rows_agree f g (NewUpload path content_type moment) kind is = absurd (not_rows OnUploads kind)
-  rows_agree f g (PutPart upload index body moment) kind is = absurd (not_rows OnUploads kind)
-  rows_agree f g (CommitUpload upload parts body moment) kind is = absurd (not_rows OnUploads kind)
-  rows_agree f g (AbortUpload upload moment) kind is = absurd (not_rows OnUploads kind)
 
 -- a command as it stands in a log, without digests
 pub record InLog (qs : List (List ℕ)) (c : Command Body) : Type 0 where
   pub fits : HasSpelling (undigested c)
   pub plain : undigested (undigested c) ≡ undigested c
-  pub kind : kind_of (undigested c) ≡ OnRows
+  pub kind : IsTaken (kind_of (undigested c))
   pub stored : OfCommand (λ b. is_stored qs b ≡ true) (undigested c)
   pub same : command_with (bytes_of qs) (undigested c) ≡ command_with (bytes_of qs) c
 
-in_log : (qs : List (List ℕ)) (c : Command Body) → kind_of c ≡ OnRows → HasSpelling c → OfCommand (IsStored qs) c → InLog qs c
+in_log : (qs : List (List ℕ)) (c : Command Body) → IsTaken (kind_of c) → HasSpelling c → OfCommand (IsStored qs) c → InLog qs c
 unfolding is_stored bytes_of
-in_log qs (Put path content_type body durability metadata moment) kind fits is = record {
-  fits = record {
-    moment = fits.moment;
-    fields = record {
-      path = fits.fields.path;
-      content_type = fits.fields.content_type;
-      body = record { placed = fits.fields.body.placed; first = fits.fields.body.first; len = fits.fields.body.len };
-      durability = fits.fields.durability;
-      metadata = fits.fields.metadata;
-    };
-  };
-  plain = refl;
-  kind = refl;
-  stored = is.pieces;
-  same = refl;
+in_log qs c kind fits is = record {
+  fits = plain_fits c fits;
+  plain = plain_twice c;
+  kind = subst IsTaken (sym (kind_with undigested_body c)) kind;
+  stored = of_with undigested_body (IsStored qs) (λ b. is_stored qs b ≡ true) (λ b x. x.pieces) c is;
+  same = command_twice undigested_body (bytes_of qs) (bytes_of qs) (λ b. refl) c;
 }
-in_log qs (MakeDirectory path moment) kind fits is = record { fits = record { moment = fits.moment; fields = fits.fields }; plain = refl; kind = refl; stored = tt; same = refl }
-in_log qs (Link path source moment) kind fits is = record { fits = record { moment = fits.moment; fields = fits.fields }; plain = refl; kind = refl; stored = tt; same = refl }
-in_log qs (Delete path moment) kind fits is = record { fits = record { moment = fits.moment; fields = fits.fields }; plain = refl; kind = refl; stored = tt; same = refl }
-in_log qs (NewJob document moment) kind fits is = absurd (not_rows OnJobs kind)
-in_log qs (AddInputs job lines moment) kind fits is = absurd (not_rows OnJobs kind)
-in_log qs (EndInput job moment) kind fits is = absurd (not_rows OnJobs kind)
-in_log qs (Commit job phase place fate moment) kind fits is = absurd (not_rows OnJobs kind)
-in_log qs (Finish job moment) kind fits is = absurd (not_rows OnEnds kind)
-in_log qs (Cancel job moment) kind fits is = absurd (not_rows OnEnds kind)
-in_log qs (Close job cancelled archive moment) kind fits is = absurd (not_rows OnEnds kind)
-in_log qs (NewUpload path content_type moment) kind fits is = absurd (not_rows OnUploads kind)
-in_log qs (PutPart upload index body moment) kind fits is = absurd (not_rows OnUploads kind)
-in_log qs (CommitUpload upload parts body moment) kind fits is = absurd (not_rows OnUploads kind)
-in_log qs (AbortUpload upload moment) kind fits is = absurd (not_rows OnUploads kind)
 
 -- the payloads stand for a history that leads to the state, whose bodies stand in them
 pub record Holding (ps : List (List ℕ)) (s : State Body) (base : State Bytes) (h : History) : Type 0 where
@@ -146,19 +87,19 @@ tells qs s base h c is log few allows = record {
 }
 
 -- a command more
-pub holding_command : (qs : List (List ℕ)) (s : State Body) (base : State Bytes) (h : History) (c : Command Body) → Holding qs s base h → kind_of c ≡ OnRows → HasSpelling c → OfCommand (IsStored qs) c
+pub holding_command : (qs : List (List ℕ)) (s : State Body) (base : State Bytes) (h : History) (c : Command Body) → Holding qs s base h → IsTaken (kind_of c) → HasSpelling c → OfCommand (IsStored qs) c
     → s.count < MOST_COMMANDS → allowed size_of s c ≡ None → Holding (qs ++ spelling c ∷ []) (step s c) base (h ++ command_with (bytes_of qs) c ∷ [])
 holding_command qs s base h c is kind fits stored few allows =
     let log = in_log qs c kind fits stored in
     let new = qs ++ spelling c ∷ [] in
     let longer = keeps qs (spelling c ∷ []) in
-    let again = rows_agree (bytes_of new) (bytes_of qs) c kind (of_rows (IsStored qs) (λ b. bytes_of new b ≡ bytes_of qs b) (λ b at. longer.same b at) c kind stored) in
+    let again = command_agrees (bytes_of new) (bytes_of qs) c (of_command (IsStored qs) (λ b. bytes_of new b ≡ bytes_of qs b) (λ b at. longer.same b at) c stored) in
     record {
       history = subst (λ (d : Command Bytes). IsHistoryOf new base (h ++ d ∷ [])) log.same
           (history_more qs base h (command_with (bytes_of qs) (undigested c) ∷ []) (spelling c) is.history (inr (undigested c, tells qs s base h c is log few allows, refl)));
       state = sym (step-with (bytes_of new) s c) ∙ ap (λ (t : State Bytes). step t (command_with (bytes_of new) c)) (grown qs (spelling c ∷ []) s is.stored ∙ is.state)
           ∙ ap (λ (d : Command Bytes). step (replay base h) d) again ∙ sym (replay_more base h (command_with (bytes_of qs) c));
-      stored = of_step (IsStored new) s c kind (stays_stored qs (spelling c ∷ []) s is.stored) (of_rows (IsStored qs) (IsStored new) (λ b at. longer.kept b at) c kind stored);
+      stored = of_each_step (IsStored new) s c (stays_stored qs (spelling c ∷ []) s is.stored) (of_command (IsStored qs) (IsStored new) (λ b at. longer.kept b at) c stored);
     }
 
 module _ (seen : Option Files) (engine : EngineState) (base : State Bytes) (h : History) where

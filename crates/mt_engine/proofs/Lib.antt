@@ -1,5 +1,6 @@
 pub mod Accepts
-pub mod Commands
+pub mod Archives
+pub mod Bodies
 pub mod Ends
 pub mod Held
 pub mod Histories
@@ -10,3 +11,4 @@ pub mod Openings
 pub mod Runs
 pub mod Stores
 pub mod Stretches
+pub mod Taking

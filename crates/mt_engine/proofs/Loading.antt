@@ -1,73 +1,31 @@
 -- Payloads of a log, read one behind the other.
 use Rattle.std.proofs.Common.{◌≡◌, ◌≢◌, inl, inr, ◌<◌, ◌≤◌, ℕ, ◌+◌, Bool, true, false, true≢false, ◌&&◌, List, [], ◌∷◌, ◌++◌, length, None, refl, sym, ◌∙◌, ap, arith, subst, append_assoc, append-nil}
 use Rattle.mt_codec.specs.Pieces.{is_piece}
-use Rattle.mt_codec.specs.Spelling.{HasSpelling, Spells, spelling}
+use Rattle.mt_codec.specs.Spelling.{HasSpelling, Spells, spelling, undigested}
 use Rattle.mt_log.specs.LogImage.{Holds}
 use Rattle.mt_log.specs.LogState.{next_place}
 use Rattle.mt_log.specs.Places.{IsPlace, end_from, end_of, first_payload, from_place, payload_at}
 use Rattle.mt_log.proofs.Places.{end_from-append, end_from-rises, end_of-holds, from_place-end}
-use Rattle.md5.specs.Md5.{md5}
 use Rattle.mt_body.specs.Stored.{IsStored, bytes_of, is_stored}
-use Rattle.mt_body.proofs.Keeping.{same_bytes, still_stored}
+use Rattle.mt_body.proofs.Keeping.{still_stored}
 use Rattle.mt_model.specs.Bodies.{OfCommand, OfState, state_with}
 use Rattle.mt_model.specs.CommandStep.{allowed, replay, step}
 use Rattle.mt_model.specs.State.{State, first_state}
-use Rattle.mt_types.specs.Kinds.{OnEnds, OnJobs, OnRows, OnUploads, kind_of}
+use Rattle.mt_types.specs.Kinds.{kind_of}
 use Rattle.mt_types.specs.Values.{command_with}
 use Rattle.mt_types.specs.declared.body.Body.{Body}
 use Rattle.mt_types.specs.declared.command.Command.{Command}
-use Rattle.mt_types.specs.declared.command.Command.TheVariants.{Put, MakeDirectory, Link, Delete, NewJob, AddInputs, EndInput, Commit, Finish, Cancel, Close, NewUpload, PutPart, CommitUpload, AbortUpload}
 use Rattle.mt_types.specs.declared.limits.TheConstants.{MOST_COMMANDS}
 use Rattle.mt_engine.specs.History.{Adds, Bytes, History, IsForeignAt, IsHistoryOf, Tells}
-use Rattle.mt_engine.specs.Opening.{IsLoaded, IsLoading, MayStand, with_digest}
+use Rattle.mt_engine.specs.Opening.{IsLoaded, IsLoading, MayStand}
 use Rattle.mt_engine.specs.Places.{ArePlaces}
 use Rattle.mt_engine.specs.declared.places.Stretch.{Stretch}
-use Rattle.mt_engine.proofs.Commands.{not_rows, size_of}
-use Rattle.mt_engine.proofs.Held.{Holding, allowed_read, holding_command, holding_pieces, of_rows}
+use Rattle.mt_account.specs.Taken.{IsTaken}
+use Rattle.mt_account.proofs.Commands.{size_of}
+use Rattle.mt_engine.proofs.Bodies.{fits_apart, free_apart, kind_apart, of_command, spelled_apart, stored_apart}
+use Rattle.mt_engine.proofs.Held.{Holding, allowed_read, holding_command, holding_pieces}
 use Rattle.mt_engine.proofs.Histories.{no_history, same_command}
 use Rattle.mt_engine.proofs.Stretches.{end_push, places_stay}
-
--- ---- a command on rows with digests
-
-pub record Digested (sum : List ℕ) (c : Command Body) : Type 0 where
-  pub kind : kind_of (with_digest sum c) ≡ OnRows
-  pub fits : HasSpelling (with_digest sum c)
-  pub spelled : spelling (with_digest sum c) ≡ spelling c
-  pub allows : (s : State Body) → allowed size_of s (with_digest sum c) ≡ allowed size_of s c
-  pub stored : (ps qs : List (List ℕ)) → OfCommand (λ b. is_stored ps b ≡ true) c → OfCommand (IsStored (ps ++ qs)) (with_digest sum c) → OfCommand (IsStored ps) (with_digest sum c)
-
-pub digested : (sum : List ℕ) (c : Command Body) → kind_of c ≡ OnRows → HasSpelling c → Digested sum c
-unfolding spelling allowed is_stored
-digested sum (Put path content_type body durability metadata moment) kind fits = record {
-  kind = refl;
-  fits = record {
-    moment = fits.moment;
-    fields = record {
-      path = fits.fields.path;
-      content_type = fits.fields.content_type;
-      body = record { placed = fits.fields.body.placed; first = fits.fields.body.first; len = fits.fields.body.len };
-      durability = fits.fields.durability;
-      metadata = fits.fields.metadata;
-    };
-  };
-  spelled = refl;
-  allows = λ s. refl;
-  stored = λ ps qs pieces is. record { pieces = pieces; digest = is.digest ∙ ap md5 (same_bytes ps qs (record { first = body.first; len = body.len; md5 = sum }) pieces) };
-}
-digested sum (MakeDirectory path moment) kind fits = record { kind = refl; fits = record { moment = fits.moment; fields = fits.fields }; spelled = refl; allows = λ s. refl; stored = λ ps qs pieces is. tt }
-digested sum (Link path source moment) kind fits = record { kind = refl; fits = record { moment = fits.moment; fields = fits.fields }; spelled = refl; allows = λ s. refl; stored = λ ps qs pieces is. tt }
-digested sum (Delete path moment) kind fits = record { kind = refl; fits = record { moment = fits.moment; fields = fits.fields }; spelled = refl; allows = λ s. refl; stored = λ ps qs pieces is. tt }
-digested sum (NewJob document moment) kind fits = absurd (not_rows OnJobs kind)
-digested sum (AddInputs job lines moment) kind fits = absurd (not_rows OnJobs kind)
-digested sum (EndInput job moment) kind fits = absurd (not_rows OnJobs kind)
-digested sum (Commit job phase place fate moment) kind fits = absurd (not_rows OnJobs kind)
-digested sum (Finish job moment) kind fits = absurd (not_rows OnEnds kind)
-digested sum (Cancel job moment) kind fits = absurd (not_rows OnEnds kind)
-digested sum (Close job cancelled archive moment) kind fits = absurd (not_rows OnEnds kind)
-digested sum (NewUpload path content_type moment) kind fits = absurd (not_rows OnUploads kind)
-digested sum (PutPart upload index body moment) kind fits = absurd (not_rows OnUploads kind)
-digested sum (CommitUpload upload parts body moment) kind fits = absurd (not_rows OnUploads kind)
-digested sum (AbortUpload upload moment) kind fits = absurd (not_rows OnUploads kind)
 
 -- ---- one payload more
 
@@ -79,14 +37,11 @@ loaded_piece ps p s l is =
     let h = holding_pieces ps (p ∷ []) s l.base l.history (holds ps s l) (ap (λ b. b && true) is) in
     record { base = l.base; history = l.history; is_history = h.history; state_is = h.state; stored = h.stored }
 
-loaded_command : (ps : List (List ℕ)) (p : List ℕ) (s : State Body) (c d : Command Body) (sum : List ℕ) → IsLoaded ps s → Spells p c → kind_of c ≡ OnRows → s.count < MOST_COMMANDS → allowed size_of s c ≡ None
-    → d ≡ with_digest sum c → OfCommand (IsStored ps) d → IsLoaded (ps ++ p ∷ []) (step s d)
-loaded_command ps p s c d sum l spells kind few allows is stored =
-    let made = digested sum c kind spells.fits in
-    let at = sym is in
-    let h = holding_command ps s l.base l.history d (holds ps s l) (subst (λ (x : Command Body). kind_of x ≡ OnRows) at made.kind) (subst HasSpelling at made.fits) stored few
-    (ap (allowed size_of s) is ∙ made.allows s ∙ allows) in
-    let same : spelling d ≡ p = ap spelling is ∙ made.spelled ∙ sym spells.bytes_are in
+loaded_command : (ps : List (List ℕ)) (p : List ℕ) (s : State Body) (c d : Command Body) → IsLoaded ps s → Spells p c → IsTaken (kind_of c) → s.count < MOST_COMMANDS → allowed size_of s c ≡ None
+    → undigested d ≡ undigested c → OfCommand (IsStored ps) d → IsLoaded (ps ++ p ∷ []) (step s d)
+loaded_command ps p s c d l spells kind few allows is stored =
+    let h = holding_command ps s l.base l.history d (holds ps s l) (subst IsTaken (sym (kind_apart c d is)) kind) (fits_apart c d is spells.fits) stored few (free_apart c d is size_of s ∙ allows) in
+    let same : spelling d ≡ p = spelled_apart c d is ∙ sym spells.bytes_are in
     record {
       base = l.base;
       history = l.history ++ command_with (bytes_of ps) d ∷ [];
@@ -114,10 +69,10 @@ module _ (ps : List (List ℕ)) (place : ℕ) (s : State Body) (earlier : List S
   rest_is = (λ i. from_place (l.place_is i) (l.all i)) ∙ from_place-end l.before l.rest
 
   -- what stands before it stands
-  pub stands_on : (c : Command Body) → kind_of c ≡ OnRows → OfCommand (λ b. is_stored l.before b ≡ true) c → OfCommand (λ b. is_stored ps b ≡ true) c
-  stands_on c kind is =
-      of_rows (λ (b : Body). is_stored l.before b ≡ true) (λ (b : Body). is_stored ps b ≡ true)
-      (λ b x. ap (λ (y : List (List ℕ)). is_stored y b) l.all ∙ still_stored l.before l.rest b x) c kind is
+  pub stands_on : (c : Command Body) → OfCommand (λ b. is_stored l.before b ≡ true) c → OfCommand (λ b. is_stored ps b ≡ true) c
+  stands_on c is =
+      of_command (λ (b : Body). is_stored l.before b ≡ true) (λ (b : Body). is_stored ps b ≡ true)
+      (λ b x. ap (λ (y : List (List ℕ)). is_stored y b) l.all ∙ still_stored l.before l.rest b x) c is
 
   module _ (at : IsPlace place ps) where
     -- and its first payload
@@ -142,15 +97,13 @@ module _ (ps : List (List ℕ)) (place : ℕ) (s : State Body) (earlier : List S
         next_loading next s earlier' last' next_is (loaded_piece l.before (payload_at place ps) s l.loaded is) (add l.before (payload_at place ps) l.pieces l.place_is is len)
 
     -- a command
-    pub loading_command : (p : List ℕ) (c d : Command Body) (sum : List ℕ) (s' : State Body) → payload_at place ps ≡ p → is_piece (payload_at place ps) ≡ false → Spells p c → kind_of c ≡ OnRows → s.count < MOST_COMMANDS
-        → allowed size_of s c ≡ None → OfCommand (λ b. is_stored l.before b ≡ true) c → d ≡ with_digest sum c → OfCommand (IsStored ps) d → s' ≡ step s d → IsLoading ps (next_place place (length (payload_at place ps))) s' earlier last
-    loading_command p c d sum s' here apart spells kind few allows pieces is stored stepped =
-        let made = digested sum c kind spells.fits in
-        let whole = subst (λ (x : List (List ℕ)). OfCommand (IsStored x) (with_digest sum c)) l.all (subst (λ (x : Command Body). OfCommand (IsStored ps) x) is stored) in
-        let here_stored = subst (λ (x : Command Body). OfCommand (IsStored l.before) x) (sym is) (made.stored l.before l.rest pieces whole) in
+    pub loading_command : (p : List ℕ) (c d : Command Body) (s' : State Body) → payload_at place ps ≡ p → is_piece (payload_at place ps) ≡ false → Spells p c → IsTaken (kind_of c) → s.count < MOST_COMMANDS
+        → allowed size_of s c ≡ None → OfCommand (λ b. is_stored l.before b ≡ true) c → undigested d ≡ undigested c → OfCommand (IsStored ps) d → s' ≡ step s d → IsLoading ps (next_place place (length (payload_at place ps))) s' earlier last
+    loading_command p c d s' here apart spells kind few allows pieces is stored stepped =
+        let whole = subst (λ (x : List (List ℕ)). OfCommand (IsStored x) d) l.all stored in
         next_loading (next_place place (length (payload_at place ps))) s' earlier last refl
         (subst (λ (t : State Body). IsLoaded (l.before ++ payload_at place ps ∷ []) t) (sym stepped)
-        (loaded_command l.before (payload_at place ps) s c d sum l.loaded (subst (λ (q : List ℕ). Spells q c) (sym here) spells) kind few allows is here_stored))
+        (loaded_command l.before (payload_at place ps) s c d l.loaded (subst (λ (q : List ℕ). Spells q c) (sym here) spells) kind few allows is (stored_apart c d is l.before l.rest pieces whole)))
         (places_stay l.before (payload_at place ps) earlier last l.pieces apart)
 
     -- neither

@@ -13,7 +13,7 @@ use Rattle.mt_model.specs.State.{State}
 use Rattle.mt_model.proofs.RowsWith.{is_some-map}
 use Rattle.mt_types.specs.declared.body.Body.{Body}
 use Rattle.mt_types.specs.declared.command.Command.{Command}
-use Rattle.mt_engine.specs.Accepting.{Ends, with_command, with_run}
+use Rattle.mt_engine.specs.Accepting.{Drops, Ends, with_command, with_run}
 use Rattle.mt_engine.specs.Current.{EngineState}
 use Rattle.mt_engine.specs.declared.publish.RunEnd.{RunEnd}
 use Rattle.mt_engine.specs.declared.publish.RunEnd.TheVariants as ended
@@ -24,6 +24,11 @@ module _ (log log' : LogState) (state : State Body) (engine : EngineState) (is :
       → Ends result engine run (record { log = log'; state = state })
   ends_so ended.Done run done disk = (λ i. record { log = done refl i; state = state }) ∙ ap (λ (e : EngineState). with_run e run) is
   ends_so ended.Disk run done disk = (λ i. record { log = disk refl i; state = state }) ∙ ap (λ (e : EngineState). record e { log = record e.log { closed = true } }) is
+
+  -- one whose run is given up
+  pub drops_so : (result : RunEnd) → (result ≡ ended.Done → log' ≡ log) → (result ≡ ended.Disk → log' ≡ record log { closed = true }) → Drops result engine (record { log = log'; state = state })
+  drops_so ended.Done done disk = (λ i. record { log = done refl i; state = state }) ∙ is
+  drops_so ended.Disk done disk = (λ i. record { log = disk refl i; state = state }) ∙ ap (λ (e : EngineState). record e { log = record e.log { closed = true } }) is
 
   -- and one with a command more
   pub added_so : (state' : State Body) (run : RunState) (command : Command Body) (payload : List ℕ) → payload ≡ spelling command → log' ≡ record log { gate = next_place run.next (length payload) }
@@ -59,3 +64,9 @@ pub ended_same : (result : RunEnd) (log log' : LogState) (gate : ℕ) → (resul
     → (log'.is_old ≡ log.is_old) × (log'.limit ≡ log.limit)
 ended_same ended.Done log log' gate done disk = (ap (λ (l : LogState). l.is_old) (done refl), ap (λ (l : LogState). l.limit) (done refl))
 ended_same ended.Disk log log' gate done disk = (ap (λ (l : LogState). l.is_old) (disk refl), ap (λ (l : LogState). l.limit) (disk refl))
+
+-- and so does one whose run is given up
+pub dropped_same : (result : RunEnd) (log log' : LogState) → (result ≡ ended.Done → log' ≡ log) → (result ≡ ended.Disk → log' ≡ record log { closed = true })
+    → (log'.is_old ≡ log.is_old) × (log'.limit ≡ log.limit)
+dropped_same ended.Done log log' done disk = (ap (λ (l : LogState). l.is_old) (done refl), ap (λ (l : LogState). l.limit) (done refl))
+dropped_same ended.Disk log log' done disk = (ap (λ (l : LogState). l.is_old) (disk refl), ap (λ (l : LogState). l.limit) (disk refl))

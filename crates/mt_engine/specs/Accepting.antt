@@ -9,6 +9,7 @@ use Rattle.mt_edge.specs.Stream.{LeftAfter}
 use Rattle.mt_log.specs.LogState.{next_place}
 use Rattle.mt_log.specs.RunState.{RunState, size_with_run}
 use Rattle.mt_body.specs.Filling.{AtEnd}
+use Rattle.mt_body.specs.Growth.{growth}
 use Rattle.mt_body.specs.Stored.{IsCut, IsStored, bytes_of, pieces_size, pieces_that_fit}
 use Rattle.mt_body.specs.declared.pieces.Storing.{Storing}
 use Rattle.mt_body.specs.declared.pieces.Storing.TheVariants as storing
@@ -74,6 +75,16 @@ closed engine = record engine { log = record engine.log { closed = true } }
 abbrev pub Ends : RunEnd → EngineState → RunState → EngineState → Type 0
 Ends ended.Done engine run engine' = engine' ≡ with_run engine run
 Ends ended.Disk engine run engine' = engine' ≡ closed engine
+
+-- a run is given up, or its log is closed
+abbrev pub Drops : RunEnd → EngineState → EngineState → Type 0
+Drops ended.Done engine engine' = engine' ≡ engine
+Drops ended.Disk engine engine' = engine' ≡ closed engine
+
+-- an engine has room for a command behind pieces of so many bytes, and for one command more
+pub record HasRoomFor (engine : EngineState) (pieces : ℕ) (command : Command Body) : Type 0 where
+  pub few : engine.state.count < MOST_COMMANDS
+  pub fits : engine.log.gate + 1 + growth pieces command ≤ engine.log.limit
 
 -- the state takes the command, and so does the log behind the records of a run
 pub record Takes (engine : EngineState) (run : RunState) (command : Command Body) : Type 0 where

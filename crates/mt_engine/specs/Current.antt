@@ -1,5 +1,5 @@
 -- What an engine holds, and how it stands to a history and a disk.
-use Rattle.std.specs.Prelude.{◌≡◌, ℕ, false, true, List, [], ◌++◌, Option, Some}
+use Rattle.std.specs.Prelude.{◌≡◌, ℕ, ◌+◌, ◌≤◌, false, true, List, ◌++◌, length, Option, Some, None}
 use Rattle.std.specs.List.{list_all}
 use Rattle.std.specs.Option.{ForSome}
 use Rattle.mt_base.specs.Lists.{IsPrefixOf}
@@ -11,10 +11,8 @@ use Rattle.mt_log.specs.RunState.{HasTaken, RunState}
 use Rattle.mt_body.specs.Stored.{IsStored, bytes_of}
 use Rattle.mt_model.specs.Bodies.{OfState, state_with}
 use Rattle.mt_model.specs.CommandStep.{replay}
-use Rattle.mt_model.specs.Rows.{Rows}
 use Rattle.mt_model.specs.State.{State}
 use Rattle.mt_types.specs.declared.body.Body.{Body}
-use Rattle.mt_types.specs.declared.object.Object.{Object}
 use Rattle.mt_engine.specs.History.{Bytes, HasHistory, History, IsHistoryOf}
 
 -- the log, and the state over references into it
@@ -53,13 +51,27 @@ pub record IsBetween (base : State Bytes) (h k : History) (c : Files) : Type 0 w
   pub from : IsPrefixOf h history
   pub to : IsPrefixOf history k
 
--- a state of these rows after so many commands, without jobs and uploads
-abbrev pub state_of : {B : Type 0} → ℕ → Rows B → State B
-state_of count rows = record { count = count; rows = rows; jobs = []; uploads = [] }
+-- where the disk tells what it holds, the engine stands for this base and history
+abbrev pub Over : Option Files → EngineState → State Bytes → History → Type 0
+Over seen engine base h = ForSome seen (λ files. IsCurrent seen engine base h)
 
--- an object with another moment
-abbrev pub moved_to : {B : Type 0} → ℕ → Object B → Object B
-moved_to moment object = record object { mtime = moment }
+-- the bytes of the log, its closed gate among them, where the disk tells what it holds
+abbrev pub told_size : Option Files → EngineState → ℕ
+told_size None engine = 0
+told_size (Some files) engine = engine.log.gate + 1
+
+-- an image has a history that begins with this one
+pub record HasFront (base : State Bytes) (c : Files) (front : History) : Type 0 where
+  pub history : History
+  pub has : HasHistory base history c
+  pub is_front : IsPrefixOf front history
+
+-- an image has the whole history, or all of it but its last command
+pub record HasNearly (base : State Bytes) (whole : History) (c : Files) : Type 0 where
+  pub history : History
+  pub has : HasHistory base history c
+  pub front : IsPrefixOf history whole
+  pub last : length whole ≤ length history + 1
 
 -- where the engine is open and the disk tells what it holds, it has a history
 abbrev pub Serves : Option Files → EngineState → Type 0

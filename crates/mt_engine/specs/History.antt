@@ -9,11 +9,12 @@ use Rattle.mt_body.specs.Stored.{bytes_of, is_stored}
 use Rattle.mt_model.specs.Bodies.{OfCommand}
 use Rattle.mt_model.specs.CommandStep.{allowed, replay}
 use Rattle.mt_model.specs.State.{State, first_state}
-use Rattle.mt_types.specs.Kinds.{OnRows, kind_of}
+use Rattle.mt_types.specs.Kinds.{kind_of}
 use Rattle.mt_types.specs.Values.{command_with}
 use Rattle.mt_types.specs.declared.body.Body.{Body}
 use Rattle.mt_types.specs.declared.command.Command.{Command}
 use Rattle.mt_types.specs.declared.limits.TheConstants.{MOST_COMMANDS}
+use Rattle.mt_account.specs.Taken.{IsTaken}
 
 -- the bytes of a body
 abbrev pub Bytes : Type 0
@@ -23,11 +24,11 @@ Bytes = List ℕ
 abbrev pub History : Type 0
 History = List (Command Bytes)
 
--- The payload is this command, which may stand behind these payloads in this state: it is one on rows, its bodies stand before
--- it, and it is allowed.
+-- The payload is this command, which may stand behind these payloads in this state: it is on rows or jobs, its bodies stand
+-- before it, and it is allowed.
 pub record Tells (before : List (List ℕ)) (s : State Bytes) (p : List ℕ) (c : Command Body) : Type 0 where
   pub spelled : Spells p c
-  pub built : kind_of c ≡ OnRows
+  pub built : IsTaken (kind_of c)
   pub stored : OfCommand (λ b. is_stored before b ≡ true) c
   pub few : s.count < MOST_COMMANDS
   pub allowed : allowed length s (command_with (bytes_of before) c) ≡ None

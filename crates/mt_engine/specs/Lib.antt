@@ -1,4 +1,5 @@
 pub mod Accepting
+pub mod Archiving
 pub mod Current
 pub mod History
 pub mod Looking

@@ -13,11 +13,11 @@ use Rattle.mt_body.specs.Stored.{IsStored, bytes_of, is_stored}
 use Rattle.mt_model.specs.Bodies.{OfCommand, OfState, state_with}
 use Rattle.mt_model.specs.CommandStep.{allowed, replay}
 use Rattle.mt_model.specs.State.{State}
-use Rattle.mt_types.specs.Kinds.{OnRows, kind_of}
-use Rattle.mt_types.specs.Values.{command_with}
+use Rattle.mt_types.specs.Kinds.{kind_of}
 use Rattle.mt_types.specs.declared.body.Body.{Body}
 use Rattle.mt_types.specs.declared.command.Command.{Command}
 use Rattle.mt_types.specs.declared.limits.TheConstants.{MOST_COMMANDS}
+use Rattle.mt_account.specs.Taken.{IsTaken}
 use Rattle.mt_engine.specs.History.{Bytes, HasHistory, History, IsForeignAt, IsHistoryOf}
 use Rattle.mt_engine.specs.Places.{ArePlaces}
 use Rattle.mt_engine.specs.declared.opening.OpenEnd.{OpenEnd}
@@ -87,14 +87,10 @@ pub record IsLoading (ps : List (List ℕ)) (place : ℕ) (state : State Body) (
 
 -- the command may stand behind these payloads in this state, where each of its bodies is a reference
 pub record MayStand (before : List (List ℕ)) (s : State Body) (c : Command Body) : Type 0 where
-  pub kind : kind_of c ≡ OnRows
+  pub kind : IsTaken (kind_of c)
   pub few : s.count < MOST_COMMANDS
   pub stored : OfCommand (λ b. is_stored before b ≡ true) c
   pub allowed : allowed (λ b. b.len) s c ≡ None
-
--- the command with this digest in the place of each
-abbrev pub with_digest : List ℕ → Command Body → Command Body
-with_digest sum = command_with (λ b. record { first = b.first; len = b.len; md5 = sum })
 
 -- the refusal names the first payload that adds nothing
 abbrev pub NamesForeign : List (List ℕ) → Unreadable → Type 0

@@ -1,5 +1,5 @@
 //! The engine: a log, and the state that it stands for.
-ghost use Rattle.std.specs.Prelude.{◌≡◌, ◌≢◌, ◌⊎◌, ◌≤◌, ◌+◌, [], ◌∷◌, ◌++◌, ℕ, List, true, false};
+ghost use Rattle.std.specs.Prelude.{◌≡◌, ◌≢◌, ◌⊎◌, ◌↔◌, ◌<◌, ◌^◌, ◌≤◌, ◌+◌, [], ◌∷◌, ◌++◌, ℕ, List, length, true, false, IfOk, IsTrue};
 ghost use Rattle.std.specs.Option.{ForSome};
 ghost use Rattle.md5.specs.Md5.{Holds};
 ghost use Rattle.mt_base.specs.Counts.{NeverFell, Rose};
@@ -13,27 +13,32 @@ ghost use Rattle.mt_model.specs.Bodies.{OfCommand};
 ghost use Rattle.mt_model.specs.Keeping.{KeepsLimits};
 ghost use Rattle.mt_model.specs.Lawful.{Lawful};
 ghost use Rattle.mt_model.specs.State.{State};
-ghost use Rattle.mt_types.specs.Kinds.{OnRows, kind_of};
+ghost use Rattle.mt_types.specs.Kinds.{kind_of};
 ghost use Rattle.mt_types.specs.Values.{command_with};
 ghost use Rattle.mt_types.specs.declared.command.Command.{Command};
 ghost use Rattle.mt_types.specs.declared.limits.TheConstants.{MOST_COMMANDS};
-ghost use Rattle.mt_engine.specs.Accepting.{Accepts, Decided, Ends, Reaches, StoresBody, Takes, closed};
+ghost use Rattle.mt_account.specs.Taken.{IsTaken};
+ghost use Rattle.mt_engine.specs.Accepting.{Accepts, Decided, Drops, Ends, HasRoomFor, Reaches, StoresBody, Takes, closed};
 ghost use Rattle.mt_engine.specs.Current.{IsBetween, IsCurrent, IsWriting};
 ghost use Rattle.mt_engine.specs.History.{Bytes, HasHistory, History};
 ghost use Rattle.mt_engine.specs.Ready.{EngineStays, RunGoesOn, RunIsReady};
 
-use crate::account::{Account, has_spelling};
-use crate::publish::{RunEnd, end_log_run, publish};
+use crate::publish::{RunEnd, drop_log_run, end_log_run, publish};
 use md5::Md5;
+use mt_account::{Account, has_spelling};
 use mt_body::{Storing, store};
 use mt_codec::encode;
 use mt_disk::Disk;
 use mt_edge::Source;
+use mt_jobs::Jobs;
 use mt_log::{Log, Run};
 use mt_tree::Tree;
 use mt_types::{Body, Command, MOST_COMMANDS, Refusal};
 use std::alloc::{AllocError, Global};
 use std::marker::Model;
+
+/// A payload has at most so many bytes, whose number has four.
+const MOST_BYTES: u64 = 4_294_967_295;
 
 /// A log and the state of the account that it stands for, over references to bodies in it. Contracts see both.
 #[derive(Drop)]
@@ -67,6 +72,16 @@ pub enum Accepted {
     Closed,
 }
 
+// Whether pieces of so many bytes and a record of a payload have room behind a log, under a limit.
+fn fits(used: u64, limit: u64, pieces: u64, payload: u64) -> bool
+    ensures { IsTrue result ↔ (used + (pieces + 21 + payload) ≤ limit) }
+{
+    used <= limit
+        && pieces <= limit - used
+        && 21 <= limit - used - pieces
+        && payload <= limit - used - pieces - 21
+}
+
 impl Engine {
     /// What stands at the paths of the account: a lawful state within its limits.
     pub fn tree(&self) -> &Tree<Body>
@@ -75,6 +90,15 @@ impl Engine {
         ensures limits { KeepsLimits self.now.state }
     {
         self.account.tree()
+    }
+
+    /// The jobs of the account: those of a lawful state within its limits.
+    pub fn jobs(&self) -> &Jobs<Body>
+        ensures jobs { result.now ≡ self.now.state.jobs }
+        ensures lawful { Lawful self.now.state }
+        ensures limits { KeepsLimits self.now.state }
+    {
+        self.account.jobs()
     }
 
     /// The number of commands so far, 2 ^ 50 - 1 at most.
@@ -111,6 +135,29 @@ impl Engine {
         ensures { result ≡ self.now.log.is_old }
     {
         self.log.is_old()
+    }
+
+    /// Whether the log has room for a command behind pieces of so many bytes, and the account for one more. The command is spelled
+    /// for that, with whatever bodies it has, and nothing is written.
+    pub fn has_room(
+        &self,
+        alloc: Global,
+        pieces: u64,
+        command: &Command<Body>,
+    ) -> Result<bool, AllocError>
+        requires limits { IsWithinLimits command.now }
+        ensures { IfOk result (λ b. IsTrue b ↔ HasRoomFor self.now pieces command.now) }
+    {
+        let payload = encode(alloc, command)?;
+        if self.account.count() == MOST_COMMANDS {
+            return Ok(false);
+        }
+        Ok(fits(
+            self.log.len(),
+            self.log.limit(),
+            pieces,
+            payload.len() as u64,
+        ))
     }
 
     /// Begins a run: bodies may be stored in it, and then a command ends it. The engine is not to be used for another until then.
@@ -173,7 +220,24 @@ impl Engine {
         end_log_run(&mut self.log, disk, run)
     }
 
-    /// Ends a run with a command on rows, whose bodies were stored in the run or before it: it is added, and the state is that after
+    /// Gives a run up. What was written of it is not read, and the next run is written over it. One call of the disk, and none for
+    /// a run that took nothing.
+    pub fn drop_run<D: Disk>(&mut self, disk: &mut D, run: Run) -> RunEnd
+        requires ready { RunIsReady D.seen D.may_leave disk.old self.old run }
+        ensures drops { Drops result self.old self.new }
+        ensures same { result ≡ RunEnd.Done → D.seen disk.new ≡ D.seen disk.old }
+        ensures current { (base : State Bytes) (h : History) (qs : List (List ℕ)) → IsWriting (D.seen disk.old) self.old run base h qs →
+            result ≡ RunEnd.Done → IsCurrent (D.seen disk.new) self.new base h }
+        ensures any_moment { (base : State Bytes) (h : History) (qs : List (List ℕ)) → IsWriting (D.seen disk.old) self.old run base h qs →
+            LeavesOnly D.moment D.left_since disk.old disk.new (HasHistory base h) }
+        ensures stands { Stands D.seen D.may_leave disk.new self.new.log }
+        ensures keeps { EngineStays D.seen D.faults disk.old disk.new self.old self.new }
+        ensures disk { result ≡ RunEnd.Disk → Rose (D.faults disk.old) (D.faults disk.new) }
+    {
+        drop_log_run(&mut self.log, disk, run)
+    }
+
+    /// Ends a run with a command on rows or jobs, whose bodies were stored in the run or before it: it is added, and the state is that after
     /// it, or nothing of it is. What is Full is known before the state changes, and all memory is taken before the disk is called.
     pub fn accept<D: Disk>(
         &mut self,
@@ -183,7 +247,7 @@ impl Engine {
         command: Command<Body>,
     ) -> Accepted
         requires ready { RunGoesOn D.seen D.may_leave disk.old self.old run }
-        requires kind { kind_of command ≡ OnRows }
+        requires kind { IsTaken (kind_of command) }
         requires limits { IsWithinLimits command }
         // Over any disk.
         ensures decided { Decided result self.old run command self.new }
@@ -221,6 +285,9 @@ impl Engine {
                 RunEnd::Disk => Accepted::Disk,
             };
         }
+        if payload.len() as u64 > MOST_BYTES {
+            return self.give_up();
+        }
         has_spelling(&command);
         self.add(alloc, disk, run, command, payload.as_slice())
     }
@@ -243,9 +310,10 @@ impl Engine {
         payload: &[u8],
     ) -> Accepted
         requires ready { RunIsReady D.seen D.may_leave disk.old self.old run }
-        requires kind { kind_of command ≡ OnRows }
+        requires kind { IsTaken (kind_of command) }
         requires spelled { HasSpelling command }
         requires payload { payload.now ≡ spelling command }
+        requires short { length payload.now < 2 ^ 32 }
         requires takes { Takes self.old run command }
         ensures decided { Decided result self.old run command self.new }
         ensures accepts { (base : State Bytes) (h : History) (qs : List (List ℕ)) → IsWriting (D.seen disk.old) self.old run base h qs → OfCommand (IsStored qs) command →

@@ -1,5 +1,6 @@
 //! Reading the payloads of a log that was opened, one behind the other: pieces of bodies are noted, and commands change the state.
 ghost use Rattle.std.specs.Prelude.{◌≡◌, ◌≢◌, ◌<◌, ◌≤◌, ◌+◌, ℕ, List, true, false, None, length, Err, IfOk, OnOk, IsErrOf, IsTrue, ◌↔◌};
+ghost use Rattle.std.specs.List.{AllByRecursion};
 ghost use Rattle.std.specs.Option.{ForSome};
 ghost use Rattle.mt_base.specs.Counts.{HasCause};
 ghost use Rattle.mt_codec.specs.Pieces.{is_piece};
@@ -8,27 +9,28 @@ ghost use Rattle.mt_disk.specs.CrashModel.{OnlyRead};
 ghost use Rattle.mt_log.specs.LogState.{next_place, told};
 ghost use Rattle.mt_log.specs.Places.{payload_at};
 ghost use Rattle.mt_body.specs.Stored.{is_stored};
-ghost use Rattle.mt_model.specs.Bodies.{OfCommand};
-ghost use Rattle.mt_types.specs.Kinds.{OnRows, kind_of};
+ghost use Rattle.mt_model.specs.Bodies.{OfArchive, OfCommand, OfFate, OfRecord};
+ghost use Rattle.mt_types.specs.Kinds.{kind_of};
 ghost use Rattle.mt_types.specs.declared.command.Command.{Command};
 ghost use Rattle.mt_types.specs.declared.body.Body.{Body};
 ghost use Rattle.mt_types.specs.declared.limits.TheConstants.{MOST_COMMANDS};
 ghost use Rattle.mt_engine.specs.Looking.{LogIsThere, OnlyLooks, OnlyReads, RecordIsThere};
+ghost use Rattle.mt_account.specs.Taken.{IsTaken};
 ghost use Rattle.mt_engine.specs.Opening.{IsLoaded, IsLoading, MayStand, NamesForeign};
 ghost use Rattle.mt_engine.specs.Places.{ArePlaces};
 ghost use Rattle.mt_engine.specs.declared.opening.Unreadable.{Unreadable};
 ghost use Rattle.mt_engine.specs.declared.opening.Unreadable.TheVariants.{Foreign};
 
-use crate::account::Account;
 use crate::digest::digest_command;
 use crate::opening::{OpenEnd, foreign};
 use crate::places::Places;
+use mt_account::{Account, is_taken};
 use mt_ahead::ReadAhead;
 use mt_base::zeros;
 use mt_codec::{DecodeError, decode};
 use mt_disk::{Disk, DiskFault};
 use mt_log::Log;
-use mt_types::{Body, Command, LARGEST_PIECE, MOST_COMMANDS};
+use mt_types::{Archive, Body, Command, Fate, LARGEST_PIECE, MOST_COMMANDS, TaskRecord};
 use std::alloc::Global;
 
 /// The bytes of the log that are read ahead.
@@ -94,50 +96,71 @@ fn command_at<D: Disk>(
     }
 }
 
-// Whether a command is one on rows.
-fn is_on_rows(command: &Command<Body>) -> bool
-    ensures { IsTrue result ↔ (kind_of command.now ≡ OnRows) }
+// Whether the pieces of the body of a record stand in the log.
+fn record_stands(places: &Places, written: &TaskRecord<Body>) -> bool
+    ensures { (ps : List (List ℕ)) → ArePlaces ps places.now.earlier.items places.now.last → IsTrue result ↔ OfRecord (λ b. is_stored ps b ≡ true) written.now }
 {
-    match command {
-        Command::Put { .. }
-        | Command::MakeDirectory { .. }
-        | Command::Link { .. }
-        | Command::Delete { .. } => true,
-        Command::NewJob { .. }
-        | Command::AddInputs { .. }
-        | Command::EndInput { .. }
-        | Command::Commit { .. }
-        | Command::Finish { .. }
-        | Command::Cancel { .. }
-        | Command::Close { .. }
-        | Command::NewUpload { .. }
-        | Command::PutPart { .. }
-        | Command::CommitUpload { .. }
-        | Command::AbortUpload { .. } => false,
+    match written {
+        TaskRecord::Emit { body, .. } | TaskRecord::Keep { body, .. } => places.has(body),
+        TaskRecord::Ref { .. } => true,
     }
 }
 
-// Whether the pieces of each body that a command on rows brings stand in the log.
+// Whether those of records do.
+fn records_stand(places: &Places, records: &[TaskRecord<Body>]) -> bool
+    ensures { (ps : List (List ℕ)) → ArePlaces ps places.now.earlier.items places.now.last → IsTrue result ↔ AllByRecursion (OfRecord (λ b. is_stored ps b ≡ true)) records.now }
+{
+    for record in records {
+        if !record_stands(places, record) {
+            return false;
+        }
+    }
+    true
+}
+
+// Whether those of a fate do.
+fn fate_stands(places: &Places, fate: &Fate<Body>) -> bool
+    ensures { (ps : List (List ℕ)) → ArePlaces ps places.now.earlier.items places.now.last → IsTrue result ↔ OfFate (λ b. is_stored ps b ≡ true) fate.now }
+{
+    match fate {
+        Fate::Good(records) => records_stand(places, records.as_slice()),
+        Fate::Bad { .. } => true,
+    }
+}
+
+// Whether those of an archive do.
+fn archive_stands(places: &Places, archive: &Archive<Body>) -> bool
+    ensures { (ps : List (List ℕ)) → ArePlaces ps places.now.earlier.items places.now.last → IsTrue result ↔ OfArchive (λ b. is_stored ps b ≡ true) archive.now }
+{
+    places.has(&archive.err)
+        && places.has(&archive.fail)
+        && places.has(&archive.input)
+        && places.has(&archive.status)
+        && places.has(&archive.out)
+}
+
+// Whether the pieces of each body that a command on rows or jobs brings stand in the log.
 fn bodies_stand(places: &Places, command: &Command<Body>) -> bool
-    requires kind { kind_of command.now ≡ OnRows }
+    requires kind { IsTaken (kind_of command.now) }
     ensures { (ps : List (List ℕ)) → ArePlaces ps places.now.earlier.items places.now.last → IsTrue result ↔ OfCommand (λ b. is_stored ps b ≡ true) command.now }
 {
     match command {
         Command::Put { body, .. } => places.has(body),
-        Command::MakeDirectory { .. } | Command::Link { .. } | Command::Delete { .. } => true,
-        _ => unreachable!(),
+        Command::Commit { fate, .. } => fate_stands(places, fate),
+        Command::Close { archive, .. } => archive_stands(places, archive),
+        _ => true,
     }
 }
 
-// Whether a command is one on rows, its bodies stand in the payloads that were read, and one more command may be counted. Whether it may
-// stand behind them is then the state's to say.
+// Whether a command is one on rows or jobs, its bodies stand in the payloads that were read, and one more command may be counted. Whether
+// it may stand behind them is then the state's to say.
 fn is_complete(account: &Account, places: &Places, command: &Command<Body>) -> bool
-    ensures kind { result ≡ true → kind_of command.now ≡ OnRows }
+    ensures kind { result ≡ true → IsTaken (kind_of command.now) }
     ensures few { result ≡ true → account.now.count < MOST_COMMANDS }
     ensures stored { (ps : List (List ℕ)) → ArePlaces ps places.now.earlier.items places.now.last → result ≡ true → OfCommand (λ b. is_stored ps b ≡ true) command.now }
     ensures only { (ps : List (List ℕ)) → ArePlaces ps places.now.earlier.items places.now.last → MayStand ps account.now command.now → result ≡ true }
 {
-    is_on_rows(command) && account.count() < MOST_COMMANDS && bodies_stand(places, command)
+    is_taken(command) && account.count() < MOST_COMMANDS && bodies_stand(places, command)
 }
 
 // Takes the command at a place into the state.
@@ -158,15 +181,15 @@ fn load_command<D: Disk>(
     ensures foreign { (why : Unreadable) → result ≡ Err (OpenEnd.Unreadable why) → ForSome (told (D.seen disk.old)) (λ ps. NamesForeign ps why) }
     ensures looks { OnlyLooks D.seen D.may_leave D.moment D.left_since D.faults D.stays disk.old disk.new (IsErrOf result OpenEnd.Disk) }
 {
-    let mut command = match command_at(alloc, log, disk, place, buffer) {
+    let command = match command_at(alloc, log, disk, place, buffer) {
         Ok(command) => command,
         Err(end) => return Err(end),
     };
     if !is_complete(account, places, &command) {
         return Err(foreign(place));
     }
-    digest_command(log, disk, &mut command, buffer)?;
-    match account.change_if_allowed(alloc, command)? {
+    let digested = digest_command(log, disk, command, buffer)?;
+    match account.change_if_allowed(alloc, digested)? {
         Ok(()) => Ok(()),
         Err(_) => Err(foreign(place)),
     }

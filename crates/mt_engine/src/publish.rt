@@ -1,4 +1,4 @@
-//! The end of a run: its records count, all at once.
+//! The end of a run: its records count, all at once, or none of them.
 ghost use Rattle.std.specs.Prelude.{◌≡◌, ◌<◌, ◌≤◌, ◌+◌, ◌^◌, [], ◌∷◌, ◌++◌, ℕ, List, true, false, length, is_some};
 ghost use Rattle.std.specs.Option.{ForSome};
 ghost use Rattle.mt_base.specs.Counts.{NeverFell, Rose};
@@ -10,12 +10,12 @@ ghost use Rattle.mt_log.specs.RunState.{HasTaken, Running, size_with_run};
 use mt_disk::Disk;
 use mt_log::{AppendError, Log, Run};
 
-/// What became of a run.
+/// What became of a run that was ended or given up.
 #[derive(Clone, Copy, Debug, PartialEq, Eq)]
 pub enum RunEnd {
-    /// Its records are on the disk.
+    /// Its records are on the disk, or were given up.
     Done,
-    /// The disk has failed. The log is closed, and its disk has all of the records or none.
+    /// The disk has failed. The log is closed, and its disk has all of the records or none; none of those given up.
     Disk,
 }
 
@@ -62,6 +62,25 @@ pub(crate) fn publish<D: Disk>(log: &mut Log, disk: &mut D, mut run: Run, payloa
 {
     match log.add_to_run(disk, &mut run, payload) {
         Ok(_) => end_log_run(log, disk, run),
+        Err(AppendError::Disk) => RunEnd::Disk,
+        Err(AppendError::Closed | AppendError::Full) => unreachable!(),
+    }
+}
+
+/// Gives a run of an open log up.
+pub(crate) fn drop_log_run<D: Disk>(log: &mut Log, disk: &mut D, run: Run) -> RunEnd
+    requires running { Running D.seen D.may_leave disk.old log.old run }
+    requires is_open { log.old.closed ≡ false }
+    ensures same { result ≡ RunEnd.Done → D.seen disk.new ≡ D.seen disk.old }
+    ensures kept { result ≡ RunEnd.Done → log.new ≡ log.old }
+    ensures any_moment { ForSome (D.seen disk.old) (λ files. LeavesOnly D.moment D.left_since disk.old disk.new (IsBeforeOrAfter files [])) }
+    ensures stands { Stands D.seen D.may_leave disk.new log.new }
+    ensures disk { result ≡ RunEnd.Disk → Rose (D.faults disk.old) (D.faults disk.new) }
+    ensures closes { result ≡ RunEnd.Disk → log.new ≡ record log.old { closed = true } }
+    ensures faults { NeverFell (D.faults disk.old) (D.faults disk.new) }
+{
+    match log.drop_run(disk, run) {
+        Ok(()) => RunEnd::Done,
         Err(AppendError::Disk) => RunEnd::Disk,
         Err(AppendError::Closed | AppendError::Full) => unreachable!(),
     }

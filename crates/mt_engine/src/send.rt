@@ -37,6 +37,7 @@ impl Engine {
         ensures read { OnlyRead D.seen D.may_leave D.moment D.left_since disk.old disk.new }
         ensures current { (base : State Bytes) (h : History) → IsCurrent (D.seen disk.old) self.now base h → IsCurrent (D.seen disk.new) self.now base h }
         ensures stands { Stands D.seen D.may_leave disk.old self.now.log → Stands D.seen D.may_leave disk.new self.now.log }
+        ensures stays { D.stays disk.old disk.new }
         ensures cause { HasCause (D.faults disk.old) (D.faults disk.new) result }
     {
         read_body(&self.log, disk, body, at, into)

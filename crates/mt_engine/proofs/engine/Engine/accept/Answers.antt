@@ -6,7 +6,7 @@ use Rattle.mt_engine.specs.Accepting.{Accepts}
 use Rattle.mt_engine.specs.Current.{EngineState}
 use Rattle.mt_engine.specs.declared.engine.Accepted.{Accepted}
 use Rattle.mt_engine.proofs.Accepts.{idle_leaves, none_added, none_refused}
-use Rattle.mt_engine.proofs.Commands.{size_of}
+use Rattle.mt_account.proofs.Commands.{size_of}
 use Rattle.mt_engine.proofs.engine.Engine.accept.Goals as goal
 use Rattle.mt_engine.proofs.engine.Engine.accept.Goals.{in-Done, in-Disk, in-Done-end_run, in-Disk-end_run}
 
@@ -64,3 +64,9 @@ add-requires-clause-takes g c =
       few = omega (arith, count, c.count.ensures.most, c.if-count-eq-MOST_COMMANDS.false);
       fits = omega (arith, c.has_room_in_run.ensures.0 c.if-not-has_room_in_run.false, limit, c.len.ensures, ap length c.as_slice.ensures.value, c.as_slice.ensures.len, ap length c.in-Ok.ensures);
     }
+
+pub returns-then-len-gt-MOST_BYTES-clause-any_moment : goal.returns-then-len-gt-MOST_BYTES-clause-any_moment
+returns-then-len-gt-MOST_BYTES-clause-any_moment g c =
+    let d = g.D.Disk in
+    none_added d.moment d.left_since c.args.disk.now c.args.disk.now (d.seen c.args.disk.now) c.args.self.now c.args.run c.args.command c.give_up-then-len-gt-MOST_BYTES.result
+    (idle_leaves d.seen d.may_leave d.moment d.left_since c.args.disk.now c.args.self.now c.args.run c.requires.ready.running (g.met.D.Disk.only_now c.args.disk.now))

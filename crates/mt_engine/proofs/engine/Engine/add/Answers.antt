@@ -1,4 +1,4 @@
-use Rattle.std.proofs.Common.{◌≡◌, ◌⊎◌, ◌++◌, ◌∷◌, [], ℕ, List, inl, inr, is_some, length, refl, sym, subst, ap, ◌∙◌, arith}
+use Rattle.std.proofs.Common.{◌≡◌, ◌⊎◌, ◌++◌, ◌∷◌, [], ℕ, List, inl, inr, is_some, refl, sym, subst, ap, ◌∙◌, arith}
 use Rattle.mt_disk.specs.CrashModel.{LeavesOnly}
 use Rattle.mt_log.specs.LogImage.{IsBeforeOrAfter}
 use Rattle.mt_log.specs.LogState.{LogState, told, with_payloads}
@@ -9,7 +9,7 @@ use Rattle.mt_engine.specs.Accepting.{Accepts}
 use Rattle.mt_engine.specs.Current.{EngineState}
 use Rattle.mt_engine.specs.declared.engine.Accepted.{Accepted}
 use Rattle.mt_engine.specs.declared.engine.Accepted.TheVariants as accepted
-use Rattle.mt_engine.proofs.Accepts.{idle_leaves, none_added, one_added, short}
+use Rattle.mt_engine.proofs.Accepts.{idle_leaves, none_added, one_added}
 use Rattle.mt_engine.proofs.Ends.{added_current}
 use Rattle.mt_engine.proofs.Runs.{added_so, ended_same, where_open}
 use Rattle.mt_engine.proofs.engine.Engine.add.Goals as goal
@@ -22,7 +22,7 @@ returns-in-Err-clause-any_moment g c =
     (idle_leaves d.seen d.may_leave d.moment d.left_since c.args.disk.now c.args.self.now c.args.run c.requires.ready.running (g.met.D.Disk.only_now c.args.disk.now))
 
 pub publish-requires-clause-payload : goal.publish-requires-clause-payload
-publish-requires-clause-payload g c = omega (arith, ap length c.requires.payload, short c.args.command c.requires.kind c.requires.spelled)
+publish-requires-clause-payload g c = c.requires.short
 
 pub returns-clause-accepts : goal.returns-clause-accepts
 returns-clause-accepts g c base h qs writing stored =

@@ -1,5 +1,8 @@
 -- The log was opened, and then read.
 use Rattle.std.proofs.Common.{◌≡◌, ap, refl, sym, ◌∙◌, Err, is_some}
+use Rattle.mt_disk.proofs.Moments.{joins, leaves_now}
+use Rattle.mt_disk.proofs.Readings.{reads_leave}
+use Rattle.mt_log.specs.LogImage.{SameLog}
 use Rattle.mt_engine.specs.declared.opening.OpenEnd.TheVariants as OpenEnd
 use Rattle.mt_engine.proofs.Openings.{opened_current, opened_readable, refusal_is, refusal_not_disk, refused_before, refused_log}
 use Rattle.mt_engine.proofs.engine.Engine.open.Goals as goal
@@ -33,3 +36,13 @@ returns-in-Err-clause-refused g c why is =
 
 pub returns-in-Ok-load-clause-tells : goal.returns-in-Ok-load-clause-tells
 returns-in-Ok-load-clause-tells g c = ap is_some c.load.ensures.reads.read.seen_same ∙ c.in-Ok.ensures.tells (λ e. cc e)
+
+pub returns-in-Ok-load-clause-any_moment : goal.returns-in-Ok-load-clause-any_moment
+returns-in-Ok-load-clause-any_moment g c files is =
+    let d = g.D.Disk in
+    let mid = c.open.new.disk in
+    let P = SameLog files in
+    let first = c.in-Ok.ensures.any_moment files is in
+    joins d.moment d.left_since c.args.disk.now mid c.load.new.disk P P P first
+    (reads_leave d.seen d.may_leave d.moment d.left_since mid c.load.new.disk P c.load.ensures.reads.read (g.met.D.Disk.only_now mid)
+    (leaves_now d.moment d.left_since d.may_leave c.args.disk.now mid P first (g.met.D.Disk.counts_now mid))) (λ c p. p) (λ c p. p)
