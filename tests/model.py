@@ -2,6 +2,7 @@
 none of the store's code. `Store.ask` takes the bytes of one request, and gives the reply's bytes.
 """
 import base64
+import collections
 import datetime
 import email.utils
 import hashlib
@@ -21,7 +22,6 @@ PHRASES = {
     416: "Range Not Satisfiable", 507: "Insufficient Storage",
 }
 ERRORS = {
-    "NotBuilt": (400, "this is not built yet"),
     "BadRequest": (400, "the request is not well formed"),
     "ResourceNotFound": (404, "no such resource"),
     "DirectoryDoesNotExist": (404, "the parent directory does not exist"),
@@ -184,7 +184,7 @@ def read_text_path(login, text):
         return None
 
 
-MOST_LINES, MOST_ASSET_BYTES = 1_000_000, 1 << 24
+MOST_LINES, MOST_ASSET_BYTES, LONGEST_ROOT = 1_000_000, 1 << 24, 200
 TEXT_TYPES = {"err": "application/x-json-stream", "fail": "text/plain", "in": "text/plain", "status": JSON, "out": "text/plain",
               "tasks": "application/x-json-stream"}
 ARCHIVE = (("err", b"err.txt"), ("fail", b"fail.txt"), ("in", b"in.txt"), ("status", b"job.json"), ("out", b"out.txt"))
@@ -215,25 +215,86 @@ def read_document(login, body):
         reduces = phase.get("type") == "reduce"
         count = phase.get("count", 1) if reduces else None
         bad(reduces and (type(count) is not int or not 1 <= count <= 1_024))
-        phases.append((count, phase["exec"], phase.get("init", ""), names))
+        phases.append(Phase(count, phase["exec"], phase.get("init", ""), names))
     name = value.get("name")
     return (name if isinstance(name, str) and len(name.encode()) <= 1 << 24 else ""), phases
 
 
+FAILURES = {
+    "UserTaskError": "the command ended with a status other than 0",
+    "TaskOutputTooLarge": "the task's output is over the limit",
+    "TaskRecordError": "a helper's record is not whole",
+    "TaskPlaceRefused": "an output's place cannot hold an object",
+    "TaskObjectMissing": "a named object is not there",
+}
+Phase = collections.namedtuple("Phase", "count execute init assets")  # count is that of reducers; None of a map phase
+Item = collections.namedtuple("Item", "name root body reducer")
+Entry = collections.namedtuple("Entry", "phase place position items failure")  # a failure is its code, status and standard error
+
+
 class Job:
-    def __init__(self, number, moment, name, phases):
-        self.number, self.created, self.name, self.phases = number, moment, name, phases
+    def __init__(self, number, moment, name, phases, assets=()):
+        self.number, self.created, self.name, self.phases, self.assets = number, moment, name, phases, assets
         self.inputs, self.missing, self.ended, self.cancelled, self.done = [], [], False, False, None
+        self.trace = []
+
+    # What may run, and what it reads.
+    def feed(self, phase):
+        return self.inputs if phase == 0 else [item for entry in self.trace if entry.phase == phase - 1 for item in entry.items]
+
+    def tasks_of(self, phase):
+        count = self.phases[phase].count
+        return len(self.feed(phase)) if count is None else count
+
+    def reads(self, phase, place):
+        feed, count = self.feed(phase), self.phases[phase].count
+        if count is None:
+            return feed[place:place + 1]
+        return [item for k, item in enumerate(feed) if (k if item.reducer is None else item.reducer) % count == place]
+
+    def is_complete(self, phase):
+        return {entry.place for entry in self.trace if entry.phase == phase} >= set(range(self.tasks_of(phase)))
+
+    def may_begin(self, phase):
+        return self.phases[phase].count is None or self.ended and all(self.is_complete(before) for before in range(phase))
+
+    def ready(self):
+        """The phases and places of the ready tasks, in order."""
+        if self.done is not None:
+            return []
+        committed = {(entry.phase, entry.place) for entry in self.trace}
+        begun = [phase for phase in range(len(self.phases)) if self.may_begin(phase)]
+        return [(phase, place) for phase in begun for place in range(self.tasks_of(phase)) if (phase, place) not in committed]
+
+    def waits(self):
+        return self.done is None and self.ended and all(self.is_complete(phase) for phase in range(len(self.phases)))
+
+    def object_read(self, login, phase, place):
+        return printed(login, self.feed(phase)[place].name) if self.phases[phase].count is None else None
+
+    # Its texts.
+    def error(self, login, entry):
+        code, status, stderr = entry.failure
+        said = {"code": code, "message": FAILURES[code], "phase": entry.phase, "status": status, "stderr": stderr.decode(errors="replace")}
+        name = self.object_read(login, entry.phase, entry.place)
+        return said | ({"reducer": entry.place} if name is None else {"input": name})
 
     def lines(self, login, text):
-        shown = lambda line: line if isinstance(line, str) else printed(login, line)
+        missing = [line if isinstance(line, str) else printed(login, line) for line in self.missing]
+        failed = [entry for entry in self.trace if entry.failure]
         if text == "in":
-            return [printed(login, path) for path in self.inputs]
+            return [printed(login, item.name) for item in self.inputs]
+        if text == "out":
+            return [printed(login, item.name) for item in self.feed(len(self.phases))]
         if text == "fail":
-            return [shown(line) for line in self.missing]
+            names = [self.object_read(login, entry.phase, entry.place) for entry in failed]
+            return missing + [name for name in names if name is not None]
         if text == "err":
-            return [dumped({"code": "ResourceNotFound", "input": shown(line), "message": "no such object", "phase": 0}) for line in self.missing]
-        return []  # no task is committed in this model
+            absent = [dumped({"code": "ResourceNotFound", "input": line, "message": "no such object", "phase": 0}) for line in missing]
+            return absent + [dumped(self.error(login, entry)) for entry in failed]
+        state = lambda entry: "failed" if entry.failure else "ok"
+        return [dumped({"outputs": len(entry.items), "phase": entry.phase, "place": entry.place, "position": entry.position, "state": state(entry)})
+                for entry in self.trace]
 
     def status(self, login):
         phases = []
@@ -241,7 +302,7 @@ class Job:
             said = {"assets": [printed(login, path) for path in assets], "exec": execute, "type": "map" if count is None else "reduce"}
             said |= {"init": init} if init else {}
             phases.append(said | ({"count": count} if count is not None else {}))
-        stats = {"errors": len(self.missing), "inputs": len(self.inputs), "outputs": 0, "tasksDone": 0}
+        stats = {"errors": len(self.lines(login, "err")), "inputs": len(self.inputs), "outputs": len(self.feed(len(self.phases))), "tasksDone": len(self.trace)}
         return dumped({"cancelled": self.cancelled, "id": identifier(2, self.number), "inputDone": self.ended, "name": self.name, "phases": phases,
                        "state": "running" if self.done is None else "done", "stats": stats, "timeCreated": iso_time(self.created),
                        "timeDone": None if self.done is None else iso_time(self.done)})
@@ -378,9 +439,9 @@ def pieces_size(n):
 class Store:
     """The account, and how many bytes its log has."""
 
-    def __init__(self, login="l", limit=1 << 30, takes_jobs=False):
+    def __init__(self, login="l", limit=1 << 30):
         self.login, self.limit, self.used, self.count, self.moment = login, limit, 9, 0, 0
-        self.takes_jobs, self.jobs = takes_jobs, {}
+        self.jobs = {}
         self.rows = {(area,): Row(0) for area in (b"stor", b"public", b"jobs")}
 
     # What stands at a path.
@@ -403,11 +464,9 @@ class Store:
 
     def accept(self, command, stored=0):
         """Takes a command behind a body of so many bytes, where the log has room for both."""
-        growth = pieces_size(stored) + 21 + len(command)
-        if self.used + growth > self.limit:
+        if not self.has_room(pieces_size(stored), len(command)):
             self.leave(stored)
             raise Refused("NotEnoughSpace")
-        self.used += growth
         self.count += 1
 
     def leave(self, stored):
@@ -457,7 +516,6 @@ class Store:
             refuse("OriginRefused", head.first("service-worker") is not None or head.method not in ("GET", "HEAD") and head.first("origin") is not None)
             state = first_of_query(head, "state", None) if path == (b"jobs",) and head.method != "POST" else None
             of_jobs = path[2:3] == (b"live",) and path[0] == b"jobs" or path == (b"jobs",) and head.method == "POST" or state in ("running", "done")
-            refuse("NotBuilt", of_jobs and not self.takes_jobs)
         except Refused:
             self.must_be_whole(body)
             raise
@@ -594,7 +652,7 @@ class Store:
             said |= {"etag": etag(row.number), "size": len(row.body), "type": "object"}
         return json.dumps(said, separators=(",", ":"), sort_keys=True, ensure_ascii=False) + "\n"
 
-    # What is asked of jobs. The model has no tasks: a job of it ends by being cancelled.
+    # What is asked of jobs. Their tasks run where `turns.py` takes turns; else a job ends by being cancelled.
     def ask_jobs(self, head, path, state, data):
         if state is not None:
             return self.list_jobs(head, state)
@@ -642,7 +700,7 @@ class Store:
             command += b"".join(self.path_bytes(path) for path in assets)
         number = self.count * 4_096
         self.accept(command)
-        job = Job(number, self.moment, name, phases)
+        job = Job(number, self.moment, name, phases, [[row.body for row in rows] for rows in found])
         folder = identifier(2, number).encode()
         self.jobs[folder] = job
         self.rows[(b"jobs", folder)] = self.rows[(b"jobs", folder, b"stor")] = Row(self.moment)
@@ -666,22 +724,33 @@ class Store:
         for path, line in named:
             row = self.rows.get(path) if path else None
             if row is not None and row.is_object():
-                job.inputs.append(path)
+                job.inputs.append(Item(path, path[-1] if len(path[-1]) <= LONGEST_ROOT else b"input", row.body, None))
             else:
                 job.missing.append(path or line)
         return 204, [], b""
 
     def cancel_job(self, job):
         refuse("JobState", job.done is not None)
-        cancelled, done, job.cancelled, job.done = job.cancelled, job.done, True, self.moment
+        refuse("NotEnoughSpace", not self.close(job, True))
+        return 202, [], b""
+
+    def close(self, job, cancelled):
+        """Ends a job, with its five texts, where the log has room for them."""
+        before, job.cancelled, job.done = job.cancelled, cancelled, self.moment
         texts = [(name, kind, job.text(self.login, kind)) for kind, name in ARCHIVE]
-        growth = sum(pieces_size(len(text)) for *_, text in texts) + 21 + 98
-        if self.used + growth > self.limit:
-            job.cancelled, job.done = cancelled, done
-            raise Refused("NotEnoughSpace")
-        self.used += growth
-        self.count += 1
+        if not self.has_room(sum(pieces_size(len(text)) for *_, text in texts), 98):
+            job.cancelled, job.done = before, None
+            return False
         folder = identifier(2, job.number).encode()
         for index, (name, kind, text) in enumerate(texts):
-            self.rows[(b"jobs", folder, name)] = Row(self.moment, text, (self.count - 1) * 4_096 + index, TEXT_TYPES[kind])
-        return 202, [], b""
+            self.rows[(b"jobs", folder, name)] = Row(self.moment, text, self.count * 4_096 + index, TEXT_TYPES[kind])
+        self.count += 1
+        return True
+
+    def has_room(self, pieces, size):
+        """Takes the room of a command of so many bytes behind its pieces, where the log has it; else not one byte."""
+        growth = pieces + 21 + size
+        if self.used + growth > self.limit:
+            return False
+        self.used += growth
+        return True

@@ -3,12 +3,13 @@
 
 The answers are those of tests/model.py, which follows the documents with Python's own libraries and knows nothing of the code.
 """
+import copy
 import itertools
 import pathlib
 import sys
 
 sys.path.insert(0, str(pathlib.Path(__file__).resolve().parents[2] / "tests"))
-from model import Store, Unfinished, digest_text, etag  # noqa: E402
+from model import Store, Unfinished, digest_text, etag, identifier  # noqa: E402
 
 PLAIN = {9: "\\t", 10: "\\n", 13: "\\r", 92: "\\x5c"}
 AMPLE = 900_000
@@ -498,12 +499,192 @@ def faults(t):
         t.brief("GET", "/l/stor/b")
 
 
+CAT = b'{"phases":[{"exec":"cat"}]}'
+
+
+def job_path(command, tail=""):
+    """The folder of the job that the command behind so many made."""
+    return f"/l/jobs/{identifier(2, 4_096 * command)}{tail}"
+
+
+def jobs(t):
+    t.note("A job that is made, gets lines, ends its input and is cancelled; its texts before and behind that, and the objects that it leaves.")
+    t.new()
+    t.at(1_700_000_000)
+    t.put("/l/stor/a", b"hello", TEXT)
+    t.ask("POST /l/jobs HTTP/1.1", b'{"name":"n","phases":[{"exec":"cat","memory":1024},{"type":"reduce","count":2,"exec":"wc","init":"true","assets":["~~/stor/a"]}]}')
+    live = job_path(1, "/live/")
+    t.ask(f"POST {live}in HTTP/1.1", b"/l/stor/none")
+    t.brief("POST", f"{live}in", b"/l/stor/a\r\n\r\n\n~~/stor/a\r\r\n/m/stor/a\nnot a path\n/l/stor/d%2F\n/l/stor/a\r")
+    t.brief("POST", f"{live}in", b"~~/stor/a\n/l/stor/\xc3\xa9")
+    t.brief("POST", f"{live}in")
+    t.at(1_700_000_060)
+    texts = ("in", "out", "fail", "err", "tasks", "status")
+    for text in texts:
+        t.ask(f"GET {live}{text} HTTP/1.1")
+    t.ask(f"HEAD {live}fail HTTP/1.1")
+    t.ask(f"GET {live}status HTTP/1.1\nIf-None-Match: *\nRange: bytes=0-0")
+    t.ask(f"POST {live}in/end HTTP/1.1")
+    t.brief("POST", f"{live}in", b"/l/stor/a")
+    t.brief("POST", f"{live}in/end")
+    t.brief("GET", f"{live}status")
+    t.open()
+    t.brief("GET", f"{live}err")
+    t.at(1_700_000_120)
+    t.ask(f"POST {live}cancel HTTP/1.1", b"a body that is dropped")
+    for request in (("POST", "cancel"), ("POST", "in/end"), ("POST", "in"), ("GET", "status"), ("GET", "in"), ("GET", "fail")):
+        t.brief(request[0], live + request[1], b"")
+    for name in ("", "/in.txt", "/out.txt", "/fail.txt", "/err.txt", "/job.json", "/stor"):
+        t.brief("GET", job_path(1, name))
+    t.ask(f"GET {job_path(1, '/fail.txt')} HTTP/1.1\nRange: bytes=-5")
+    t.link("/l/stor/kept", job_path(1, "/job.json"))
+    t.open()
+    t.brief("GET", f"{live}status")
+    t.brief("GET", job_path(1))
+    t.note("Documents, each with its first fault; what is asked for besides is passed over.")
+    for document in (
+        b"", b"x", b"[]", b"{}", b'{"phases":[]}', b'{"phases":{}}', b'{"phases":[1]}', b'{"phases":[{}]}', b'{"phases":[{"exec":""}]}', b'{"phases":[{"exec":1}]}',
+        b'{"phases":[{"exec":"a"},{}]}', b'{"phases":[{"exec":"a","type":"x"}]}', b'{"phases":[{"exec":"a","type":1}]}', b'{"phases":[{"exec":"a","init":1}]}',
+        b'{"phases":[{"exec":"a\\u0000"}]}', b'{"phases":[{"exec":"a","type":"reduce","count":0}]}', b'{"phases":[{"exec":"a","type":"reduce","count":1025}]}',
+        b'{"phases":[{"exec":"a","type":"reduce","count":"2"}]}', b'{"phases":[{"exec":"a","type":"reduce","count":1.0}]}', b'{"phases":[{"exec":"a","assets":{}}]}',
+        b'{"phases":[{"exec":"a","assets":[1]}]}', b'{"phases":[{"exec":"a","assets":["a"]}]}', b'{"phases":[{"exec":"a","assets":["/m/stor/a"]}]}', b"\xff" + CAT,
+        b'{"phases":[' + b",".join([b'{"exec":"a"}'] * 17) + b"]}", b'{"phases":[{"exec":"a","assets":["/l/stor/none"]}]}', b'{"phases":[{"exec":"a","assets":["/l/stor"]}]}',
+        b'{"phases":[{"exec":"a","type":"map","count":0}]}', b'{"name":1,"phases":[{"exec":"a","type":"reduce","count":1024,"more":[]}],"more":{}}',
+        b'{"name":"\\u00e9","phases":[{"exec":"a","init":"","assets":["/l/stor/a","~~/stor/a"]}]}', b'{"phases":[' + b",".join([b'{"exec":"a"}'] * 16) + b"]}",
+    ):
+        t.brief("POST", "/l/jobs", document)
+    large = b'{"phases":[{"exec":"a","assets":[' + b",".join([b'"/l/stor/large"'] * 64) + b"]}]}"
+    for n in (262_144, 262_145):
+        t.put("/l/stor/large", b"x" * n)
+        t.brief("POST", "/l/jobs", large)
+    t.brief("POST", "/l/jobs", large.replace(b"]}]}", b',"/l/stor/a"]}]}'))
+
+
+def listings(t):
+    t.note("Pages of jobs: of all, and of those that run or are done, from a marker on.")
+    t.new()
+    made = []
+    for moment in range(6):
+        t.at(100 + moment)
+        made.append(t.store.count)
+        t.brief("POST", "/l/jobs", CAT)
+        if moment % 2:
+            t.brief("POST", job_path(made[-1], "/live/cancel"))
+    for query in ("", "?state=running", "?state=done"):
+        t.ask(f"GET /l/jobs{query} HTTP/1.1")
+    names = [identifier(2, 4_096 * command) for command in made]
+    for query in (
+        "state=running&limit=2", f"state=running&limit=2&marker={names[2]}", f"state=running&marker={names[3]}", f"marker={names[5]}&state=done", "state=done&marker=zz", "state=done&marker=",
+        f"state=done&marker={names[1].upper()}", f"state=done&marker={names[1][:-1]}", "state=running&limit=0", "state=running&limit=1025", "state=x", "state=", "state", "state=x&limit=0", "state=Running",
+        "state=done&state=x", "state=x&state=done", "State=x", "limit=1&state=done",
+    ):
+        t.brief("GET", f"/l/jobs?{query}")
+    t.ask("HEAD /l/jobs?state=done&limit=1 HTTP/1.1")
+    t.brief("HEAD", "/l/jobs?state=x")
+    t.brief("POST", "/l/jobs?state=x", CAT)
+
+
+def job_targets(t):
+    t.note("Each target below the folder of jobs with each method.")
+    t.new()
+    t.brief("POST", "/l/jobs", CAT)
+    t.brief("POST", "/l/jobs", CAT)
+    t.brief("POST", job_path(0, "/live/cancel"))
+    t.put("/l/stor/a", b"hello")
+    here = [job_path(1, tail) for tail in ("", "/live", "/live/in", "/live/in/end", "/live/cancel", "/live/status", "/live/out", "/live/fail", "/live/err", "/live/tasks", "/live/other", "/live/in/other", "/live/in/end/x", "/live/IN", "/%6cive/in", "/stor", "/stor/x", "/in.txt")]
+    there = [job_path(0, tail) for tail in ("", "/out.txt", "/job.json", "/stor", "/stor/x", "/live/out")]
+    for target in ["/l/jobs", "/l/jobs/live", "/l/jobs/x", "/l/jobs/x/live/in", "/l/jobs/x/live/other", "/l/jobs/x/y/z", *here, *there]:
+        for method in ("GET", "HEAD", "PUT", "DELETE", "PATCH"):
+            t.brief(method, target)
+    for target in ["/l/jobs/live", "/l/jobs/x", "/l/jobs/x/live/in", "/l/jobs/x/live/in/end", "/l/jobs/x/live/cancel", "/l/jobs/x/live/other", *here[:2], *here[5:], *there]:
+        t.brief("POST", target, b"x")
+    for target in (job_path(1), job_path(0, "/out.txt"), job_path(0, "/stor")):
+        t.directory(target)
+        t.link(target, "/l/stor/a")
+    t.note("Names that no job has: of other kinds, in capitals, of other lengths, of a job to come.")
+    name = identifier(2, 4_096)
+    for other in (identifier(1, 4_096), identifier(3, 4_096), name.upper(), name[:-1], name + "0", name.replace("-", ""), identifier(2, 4_097), identifier(2, 8_192), identifier(2, 99 * 4_096)):
+        t.brief("GET", f"/l/jobs/{other}/live/status")
+        t.brief("POST", f"/l/jobs/{other}/live/in", b"x")
+
+
+def job_order(t):
+    t.note("Two refusals at once of what is asked of jobs: the one that stands first in the order is answered.")
+    t.new()
+    t.brief("POST", "/l/jobs", CAT)
+    t.brief("POST", "/l/jobs", CAT)
+    t.brief("POST", job_path(0, "/live/cancel"))
+    t.put("/l/stor/a", b"hello")
+    md5 = "Content-MD5: " + digest_text(b"x")
+    head = {"target": "/l/jobs/../x", "login": "/m/jobs/x/live/in", "route": job_path(1, "/live/other"), "method": job_path(1, "/live/status")}
+    fields = {"origin": "Origin: null", "digest": "Content-MD5: x", "other digest": md5}
+    bodies = {"text": b"\xff", "job": b"line"}
+    for (place, target), (_, field) in itertools.product(head.items(), fields.items()):
+        t.brief("POST", target, b"\xff", field)
+    for field, body in itertools.product(fields.values(), bodies.values()):
+        for target in (job_path(0, "/live/in"), "/l/jobs/x/live/in", "/l/jobs"):
+            t.brief("POST", target, body, field)
+    for one, two in itertools.combinations(fields.values(), 2):
+        t.brief("POST", job_path(0, "/live/in"), b"\xff", one, two)
+    for target in (job_path(0, "/live/in/end"), job_path(0, "/live/cancel"), "/l/jobs/x/live/in/end", "/l/jobs/x/live/cancel"):
+        for field in fields.values():
+            t.brief("POST", target, b"line", field)
+    for target in ("/l/jobs?state=x", "/l/jobs?state=x&limit=0", "/l/jobs?state=done&limit=0", "/l/jobs/x/live/out", job_path(1, "/live/out")):
+        for field in fields.values():
+            t.brief("GET", target, b"line", field)
+    t.brief("POST", "/l/jobs/x/live/in", b"\xff")
+    t.brief("POST", job_path(0, "/live/in"), b"\xff")
+    t.brief("GET", "/l/jobs/x/live/in/end")
+    t.brief("POST", job_path(1, "/live/in"), b"/l/stor/a", "Content-MD5: " + digest_text(b"/l/stor/a"), "Transfer: x")
+    t.note("The last refusal is the log's: of a document, lines, an end and a cancel, to the byte. A cancel without room leaves the log as long as before.")
+    changes = (("/l/jobs", CAT), (job_path(1, "/live/in"), b"/l/stor/a\nx\n"), (job_path(1, "/live/in/end"), b""), (job_path(1, "/live/cancel"), b""))
+    for target, body in changes:
+        used, count = t.store.used, t.store.count
+        t.open(used)
+        t.brief("POST", target, body)
+        t.brief("POST", target, body, "Content-MD5: x")
+        t.open(used + 37)
+        t.brief("POST", target, body)
+        whole = copy.deepcopy(t.store)
+        whole.limit = AMPLE
+        whole.ask(t.request("POST", target, body, []))
+        t.open(whole.used - 1)
+        t.brief("POST", target, body)
+        t.open(whole.used)
+        t.brief("POST", target, body)
+    t.note("What stands is refused for that first, and looks need no room.")
+    t.open(t.store.used)
+    for target in ("/live/in", "/live/in/end", "/live/cancel"):
+        t.brief("POST", job_path(1, target), b"x")
+    t.brief("GET", job_path(1, "/live/status"))
+    t.brief("POST", "/l/jobs", b"x")
+
+
+def job_bodies(t):
+    t.note("Bodies of what is posted: in chunks, cut, bad or too large; nothing is made, and nothing stays.")
+    t.new()
+    t.ask("POST /l/jobs HTTP/1.1\nTransfer-Encoding: chunked", raw=b"1b\r\n" + CAT + b"\r\n0\r\n\r\n")
+    live = job_path(0, "/live/")
+    t.ask(f"POST {live}in HTTP/1.1\nTransfer-Encoding: chunked", raw=b"3\r\n/l/\r\n8\r\nstor/x\ny\r\n0\r\n\r\n")
+    t.brief("GET", f"{live}fail")
+    for target in ("/l/jobs", f"{live}in", f"{live}in/end", f"{live}cancel"):
+        for raw in (b"5\r\nhel", b"5\r\nhello\r\n", b"5\r\nhelloX", b"g\r\n", b"", b"5\r\nhello\r\n1000001\r\n"):
+            t.ask(f"POST {target} HTTP/1.1\nTransfer-Encoding: chunked", raw=raw)
+        t.ask(f"POST {target} HTTP/1.1\nContent-Length: 9", raw=b"hello")
+        t.ask(f"POST {target} HTTP/1.1\nContent-Length: 16777217", raw=b"hello")
+    t.ask(f"POST {live}in HTTP/1.1\nContent-Length: 9\nContent-MD5: x", raw=b"hello")
+    t.brief("POST", f"{live}in", b"x" * 4_097)
+    t.brief("GET", f"{live}fail")
+    t.brief("POST", f"{live}in", b"y" * 70_000)
+    t.brief("GET", f"{live}status")
+
+
 def main():
     print("# Requests and what they are answered, by `python3 wanted.py`. `store`: a new one whose log may have so many bytes; `open`: the same")
     print("# opened again. `ask`: the request above it, the length of the log and the number of commands after it, and the reply. `try`: a")
     print("# request in a row, METHOD TARGET BODY FIELD .., and the status with what the reply holds, or the part of an object that it names.")
     t = Table()
-    for part in (objects, tree, pages, conditions, ranges, digests, targets, browsers, two_at_once, space, endings, faults):
+    for part in (objects, tree, pages, conditions, ranges, digests, targets, browsers, two_at_once, space, endings, jobs, listings, job_targets, job_order, job_bodies, faults):
         part(t)
 
 

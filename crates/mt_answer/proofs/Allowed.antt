@@ -1,5 +1,5 @@
 -- The account takes the command of a request that isn't refused.
-use Rattle.std.proofs.Common.{◌≡◌, ℕ, ◌==◌, Bool, true, false, List, length, codes, bytes_eq, Option, Some, None, option_map, Result, Ok, Err, refl, sym, ap, ◌∙◌, if◌then◌else◌}
+use Rattle.std.proofs.Common.{◌≡◌, ℕ, ◌==◌, Bool, true, false, List, length, codes, bytes_eq, Option, Some, None, option_map, Result, Ok, Err, refl, sym, ap, subst, ◌∙◌, if◌then◌else◌}
 use Rattle.std.proofs.lemmas.Option.{same_Some}
 use Rattle.mt_ident.specs.Identifiers.{identifier_number}
 use Rattle.mt_cond.specs.Conditions.{judged}
@@ -19,7 +19,7 @@ use Rattle.mt_path.specs.declared.area.Area.TheVariants as area
 use Rattle.mt_request.specs.Digest.{digest_refusal, wish_of}
 use Rattle.mt_request.specs.Puts.{doing_by, kind_in, link_doing, link_to, unless}
 use Rattle.mt_request.specs.Query.{query_of, stand_in}
-use Rattle.mt_request.specs.Requests.{asked_at, asked_by, asked_late, asked_of, is_post, late_at, listed, look_at, of_rows, request_of, wanted_at}
+use Rattle.mt_request.specs.Requests.{asked_at, asked_by, asked_late, asked_of, is_post, late_at, listed, look_at, wanted_at}
 use Rattle.mt_request.specs.Routes.{is_input_end, jobs_route, live_named, live_route, part_at, route_of}
 use Rattle.mt_request.specs.Routes as routes
 use Rattle.mt_request.specs.Target.{early_at, path_read}
@@ -182,13 +182,11 @@ asked_outside : (login : List ℕ) (head : Head) → IsAskedOutside (asked_of lo
 unfolding asked_of
 asked_outside login head = by_path (path_read login head.target) login head
 
-of_rows_outside : (a : Asked) → IsAskedOutside a → IsOutside (of_rows a).doing
-of_rows_outside (asked.Rows request) out = out
-of_rows_outside (asked.Jobs request) out = tt
+of_asked : (a : Asked) (request : Request) → a ≡ asked.Rows request → IsAskedOutside a → IsOutside request.doing
+of_asked a request is out = subst IsAskedOutside is out
 
-outside : (login : List ℕ) (head : Head) → IsOutside (request_of login head).doing
-unfolding request_of
-outside login head = of_rows_outside (asked_of login head) (asked_outside login head)
+outside : (login : List ℕ) (head : Head) (request : Request) → asked_of login head ≡ asked.Rows request → IsOutside request.doing
+outside login head request is = of_asked (asked_of login head) request is (asked_outside login head)
 
 -- ---- what the account says
 
@@ -233,8 +231,8 @@ unfolding refusal_of
 account_go request rows c digest none =
     last_of_four request.early (option_map plain (digest_refusal request.wish digest)) (option_map plain request.late) (account_refusal len_of rows c request.doing) none
 
-pub done_allowed : (login : List ℕ) (head : Head) (s : State Body) (c : Conditions) (digest : Option (List ℕ)) (body : Body) (moment : ℕ) (command : Command Body)
-    → refusal_of len_of (request_of login head) s.rows c digest ≡ None → command_of s.rows (request_of login head).doing body moment ≡ Some command
+pub done_allowed : (login : List ℕ) (head : Head) (request : Request) (s : State Body) (c : Conditions) (digest : Option (List ℕ)) (body : Body) (moment : ℕ) (command : Command Body)
+    → asked_of login head ≡ asked.Rows request → refusal_of len_of request s.rows c digest ≡ None → command_of s.rows request.doing body moment ≡ Some command
     → allowed len_of s command ≡ None
-done_allowed login head s c digest body moment command none is =
-    by_doing s c body moment command (request_of login head).doing (outside login head) (account_go (request_of login head) s.rows c digest none) is
+done_allowed login head request s c digest body moment command asks none is =
+    by_doing s c body moment command request.doing (outside login head request asks) (account_go request s.rows c digest none) is

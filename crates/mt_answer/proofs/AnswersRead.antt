@@ -19,7 +19,6 @@ use Rattle.mt_model.proofs.Maps.{same_function}
 use Rattle.mt_model.proofs.RowsWith.{is_directory-with}
 use Rattle.mt_path.specs.AccountPath.{AccountPath}
 use Rattle.mt_reply.specs.declared.stamp.Stamp.{Stamp}
-use Rattle.mt_request.specs.Requests.{request_of}
 use Rattle.mt_request.specs.declared.request.Doing.{Doing}
 use Rattle.mt_request.specs.declared.request.Doing.TheVariants as doing
 use Rattle.mt_request.specs.declared.request.Request.{Request}
@@ -29,7 +28,7 @@ use Rattle.mt_types.specs.declared.command.Command.{Command}
 use Rattle.mt_types.specs.declared.command.Command.TheVariants.{Put}
 use Rattle.mt_types.specs.declared.limits.TheConstants.{MOST_COMMANDS}
 use Rattle.mt_types.specs.declared.reply.Reply.{Reply}
-use Rattle.mt_answer.specs.Answer.{Answer, accept, add_if, answer_by, answer_in, answer_of, answer_to, answer_with, command_of, growth, has_room, make_command, refuse, reply_to, stamp_of}
+use Rattle.mt_answer.specs.Answer.{Answer, accept, add_if, answer_by, answer_in, answer_to, answer_with, command_of, growth, has_room, make_command, refuse, reply_to, rows_answer_of, stamp_of}
 use Rattle.mt_answer.specs.Judging.{is_put_object, len_of, md5_of, refusal_of, stored_len, stores_body}
 use Rattle.mt_answer.specs.Laws.{IsDigested}
 use Rattle.mt_answer.proofs.Order.{not_refused}
@@ -131,24 +130,24 @@ module _ (read : Reading) where
     pub storing_read : (request : Request) (rows : Rows Body) (c : Conditions) → stores_body length request (rows_with read rows) c ≡ stores_body len_of request rows c
     storing_read request rows c = storing-with read length rows c request ∙ ap (λ (size : Body → ℕ). stores_body size request rows c) len_is
 
-    module _ (login : List ℕ) (limit : ℕ) (s : State Body) (used : ℕ) (head : Head) where
+    module _ (request : Request) (limit : ℕ) (s : State Body) (used : ℕ) (head : Head) where
       pub answer_read : (body : Body) (bytes : Bytes) (moment : ℕ) → IsDigested read s
-          → (stores_body len_of (request_of login head) s.rows (conditions_of head.fields) ≡ true → read body ≡ bytes)
-          → answer_of login limit (state_with read s) used head bytes moment ≡ answer_with read (answer_in len_of md5_of login limit s used head body (md5 bytes) moment)
-      unfolding answer_of answer_in
+          → (stores_body len_of request s.rows (conditions_of head.fields) ≡ true → read body ≡ bytes)
+          → rows_answer_of request limit (state_with read s) used head bytes moment ≡ answer_with read (answer_in len_of md5_of request limit s used head body (md5 bytes) moment)
+      unfolding rows_answer_of answer_in
       answer_read body bytes moment digested same =
-          to-with limit s (conditions_of head.fields) used digested (stamp_of head s.count moment) (request_of login head) body bytes (md5 bytes)
-          (subst (λ (size : Body → ℕ). stores_body size (request_of login head) s.rows (conditions_of head.fields) ≡ true → read body ≡ bytes) (sym len_is) same)
-          ∙ ap (λ (size : Body → ℕ). answer_with read (answer_to size md5_of limit (stamp_of head s.count moment) s (conditions_of head.fields) used (request_of login head) body (md5 bytes))) len_is
+          to-with limit s (conditions_of head.fields) used digested (stamp_of head s.count moment) request body bytes (md5 bytes)
+          (subst (λ (size : Body → ℕ). stores_body size request s.rows (conditions_of head.fields) ≡ true → read body ≡ bytes) (sym len_is) same)
+          ∙ ap (λ (size : Body → ℕ). answer_with read (answer_to size md5_of limit (stamp_of head s.count moment) s (conditions_of head.fields) used request body (md5 bytes))) len_is
 
-      pub refused_read : (bytes : Bytes) (moment : ℕ) (r : Refused) → refusal_of len_of (request_of login head) s.rows (conditions_of head.fields) (Some (md5 bytes)) ≡ Some r
-          → answer_of login limit (state_with read s) used head bytes moment
-          ≡ refuse (stamp_of head s.count moment) r limit used (stored_len len_of (request_of login head) s.rows (conditions_of head.fields) (length bytes))
-      unfolding answer_of answer_in
+      pub refused_read : (bytes : Bytes) (moment : ℕ) (r : Refused) → refusal_of len_of request s.rows (conditions_of head.fields) (Some (md5 bytes)) ≡ Some r
+          → rows_answer_of request limit (state_with read s) used head bytes moment
+          ≡ refuse (stamp_of head s.count moment) r limit used (stored_len len_of request s.rows (conditions_of head.fields) (length bytes))
+      unfolding rows_answer_of answer_in
       refused_read bytes moment r is =
-          ap (answer_by length md5 limit (stamp_of head s.count moment) (state_with read s) (conditions_of head.fields) used (request_of login head) bytes (md5 bytes))
-          (refusals_read (request_of login head) s.rows (conditions_of head.fields) (Some (md5 bytes)) ∙ is)
-          ∙ ap (λ test. refuse (stamp_of head s.count moment) r limit used (if test then length bytes else 0)) (storing_read (request_of login head) s.rows (conditions_of head.fields))
+          ap (answer_by length md5 limit (stamp_of head s.count moment) (state_with read s) (conditions_of head.fields) used request bytes (md5 bytes))
+          (refusals_read request s.rows (conditions_of head.fields) (Some (md5 bytes)) ∙ is)
+          ∙ ap (λ test. refuse (stamp_of head s.count moment) r limit used (if test then length bytes else 0)) (storing_read request s.rows (conditions_of head.fields))
 
       no_room : (count len : ℕ) (c : Command Bytes) → limit < used + pieces_size len → has_room limit count used len c ≡ false
       no_room count len c over =
@@ -168,14 +167,14 @@ module _ (read : Reading) where
       full_by (doing.Remove p) bytes moment put over = cc
       full_by (doing.Look p page range) bytes moment put over = cc
 
-      pub full_read : (bytes : Bytes) (moment : ℕ) → stores_body len_of (request_of login head) s.rows (conditions_of head.fields) ≡ true
-          → refusal_of len_of (request_of login head) s.rows (conditions_of head.fields) (Some (md5 bytes)) ≡ None → limit < used + pieces_size (length bytes)
-          → answer_of login limit (state_with read s) used head bytes moment ≡ refuse (stamp_of head s.count moment) (plain error.NotEnoughSpace) limit used (length bytes)
-      unfolding answer_of answer_in
+      pub full_read : (bytes : Bytes) (moment : ℕ) → stores_body len_of request s.rows (conditions_of head.fields) ≡ true
+          → refusal_of len_of request s.rows (conditions_of head.fields) (Some (md5 bytes)) ≡ None → limit < used + pieces_size (length bytes)
+          → rows_answer_of request limit (state_with read s) used head bytes moment ≡ refuse (stamp_of head s.count moment) (plain error.NotEnoughSpace) limit used (length bytes)
+      unfolding rows_answer_of answer_in
       full_read bytes moment stores is over =
-          ap (answer_by length md5 limit (stamp_of head s.count moment) (state_with read s) (conditions_of head.fields) used (request_of login head) bytes (md5 bytes))
-          (refusals_read (request_of login head) s.rows (conditions_of head.fields) (Some (md5 bytes)) ∙ is)
-          ∙ ap (λ test. accept length md5 limit (stamp_of head s.count moment) (state_with read s) (conditions_of head.fields) used (request_of login head).doing (md5 bytes) (if test then length bytes else 0)
-          (command_of (rows_with read s.rows) (request_of login head).doing bytes moment))
-          (storing_read (request_of login head) s.rows (conditions_of head.fields) ∙ stores)
-          ∙ full_by (request_of login head).doing bytes moment (is_put (is_put_object (request_of login head).doing) (not (is_some (refusal_of len_of (request_of login head) s.rows (conditions_of head.fields) None))) stores) over
+          ap (answer_by length md5 limit (stamp_of head s.count moment) (state_with read s) (conditions_of head.fields) used request bytes (md5 bytes))
+          (refusals_read request s.rows (conditions_of head.fields) (Some (md5 bytes)) ∙ is)
+          ∙ ap (λ test. accept length md5 limit (stamp_of head s.count moment) (state_with read s) (conditions_of head.fields) used request.doing (md5 bytes) (if test then length bytes else 0)
+          (command_of (rows_with read s.rows) request.doing bytes moment))
+          (storing_read request s.rows (conditions_of head.fields) ∙ stores)
+          ∙ full_by request.doing bytes moment (is_put (is_put_object request.doing) (not (is_some (refusal_of len_of request s.rows (conditions_of head.fields) None))) stores) over

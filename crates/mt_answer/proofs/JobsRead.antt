@@ -136,7 +136,7 @@ module _ {A B : Type 0} (f : A → B) (size : B → ℕ) where
   close-with job (Some archive) moment = refl
   close-with job None moment = refl
 
-  command-with : (d : JobDoing) (p : Posted) (archive : Option (Archive A)) (moment : ℕ)
+  pub command-with : (d : JobDoing) (p : Posted) (archive : Option (Archive A)) (moment : ℕ)
       → job_command_of d p (option_map (archive_with f) archive) moment ≡ option_map (command_with f) (job_command_of d p archive moment)
   command-with jobs.MakeJob p archive moment = make-with p moment
   command-with (jobs.PostLines (Some job)) p archive moment = lines_command-with job p moment

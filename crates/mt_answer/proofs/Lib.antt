@@ -13,4 +13,5 @@ pub mod JobsRead
 pub mod JobsTold
 pub mod PostedFits
 pub mod JobSteps
-pub mod Agrees
+pub mod JobExits
+pub mod Whole

@@ -1,5 +1,5 @@
--- What each request is answered: a reply and at most one command, by the login, the limit and the length of the log, the account,
--- the request and its moment. Over references to bodies or over their bytes. Read from `answer_of` at the end upwards.
+-- What is answered where something is asked of objects and directories: a reply and at most one command, by the limit and the length of the log,
+-- the account, the request and its moment. Over references to bodies or over their bytes. Read from `rows_answer_of` at the end upwards.
 use Rattle.std.specs.Prelude.{ℕ, ◌+◌, ◌*◌, Bool, true, false, ◌&&◌, nat_le, nat_lt, List, [], ◌∷◌, length, map, Option, Some, None, Result, Ok, Err}
 use Rattle.md5.specs.Md5.{md5}
 use Rattle.mt_body.specs.Stored.{pieces_size, pieces_that_fit}
@@ -22,7 +22,6 @@ use Rattle.mt_model.specs.State.{State}
 use Rattle.mt_path.specs.AccountPath.{AccountPath}
 use Rattle.mt_reply.specs.Replies.{done_reply, error_reply, object_reply, page_reply, part_reply, stored_reply, unchanged_reply}
 use Rattle.mt_reply.specs.declared.stamp.Stamp.{Stamp}
-use Rattle.mt_request.specs.Requests.{request_of}
 use Rattle.mt_request.specs.declared.request.Doing.{Doing}
 use Rattle.mt_request.specs.declared.request.Doing.TheVariants as doing
 use Rattle.mt_request.specs.declared.query.Page.{Page}
@@ -150,15 +149,15 @@ module _ {B : Type 0} (size : B → ℕ) (digest : B → List ℕ) where
   abbrev pub answer_to : ℕ → Stamp → State B → Conditions → ℕ → Request → B → List ℕ → Answer B
   answer_to limit stamp s c used request body sum = answer_by limit stamp s c used request body sum (refusal_of size request s.rows c (Some sum))
 
-  -- what a head is answered, whose body has this digest
-  unfoldable pub answer_in : List ℕ → ℕ → State B → ℕ → Head → B → List ℕ → ℕ → Answer B
-  answer_in login limit s used head body sum moment =
-      answer_to limit (stamp_of head s.count moment) s (conditions_of head.fields) used (request_of login head) body sum
+  -- what a head is answered that asks for this, whose body has this digest
+  unfoldable pub answer_in : Request → ℕ → State B → ℕ → Head → B → List ℕ → ℕ → Answer B
+  answer_in request limit s used head body sum moment =
+      answer_to limit (stamp_of head s.count moment) s (conditions_of head.fields) used request body sum
 
--- WHAT A REQUEST IS ANSWERED, over the bytes of bodies: of this login, under this limit of the log, in this state, with a log of so
--- many bytes, by its head, its body and its moment
-unfoldable pub answer_of : List ℕ → ℕ → State (List ℕ) → ℕ → Head → List ℕ → ℕ → Answer (List ℕ)
-answer_of login limit s used head body moment = answer_in length md5 login limit s used head body (md5 body) moment
+-- WHAT IS ANSWERED WHERE SOMETHING IS ASKED OF OBJECTS AND DIRECTORIES, or where a head is refused, over the bytes of bodies: where this is
+-- asked, under this limit of the log, in this state, with a log of so many bytes, by its head, its body and its moment
+unfoldable pub rows_answer_of : Request → ℕ → State (List ℕ) → ℕ → Head → List ℕ → ℕ → Answer (List ℕ)
+rows_answer_of request limit s used head body moment = answer_in length md5 request limit s used head body (md5 body) moment
 
 -- the same answer over other bodies
 abbrev pub answer_with : {A B : Type 0} → (A → B) → Answer A → Answer B

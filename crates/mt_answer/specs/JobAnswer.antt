@@ -1,10 +1,9 @@
--- What is answered where something is asked of jobs: a reply and at most one command. Read from `whole_answer_of` at the end upwards.
+-- What is answered where something is asked of jobs: a reply and at most one command. Read from `job_answer_of` at the end upwards.
 use Rattle.std.specs.Prelude.{ℕ, ◌+◌, ◌*◌, Bool, true, false, ◌&&◌, nat_le, nat_lt, List, [], ◌∷◌, length, take, Option, Some, None, option_map}
 use Rattle.std.specs.List.{filter}
 use Rattle.md5.specs.Md5.{md5}
 use Rattle.mt_body.specs.Stored.{pieces_size}
 use Rattle.mt_codec.specs.Pieces.{spelled_size}
-use Rattle.mt_cond.specs.Conditions.{conditions_of}
 use Rattle.mt_error.specs.Refusals.{plain}
 use Rattle.mt_error.specs.declared.code.ErrorCode.TheVariants as error
 use Rattle.mt_error.specs.declared.refused.Refused.{Refused}
@@ -19,9 +18,6 @@ use Rattle.mt_model.specs.State.{State}
 use Rattle.mt_path.specs.AccountPath.{path_text}
 use Rattle.mt_reply.specs.Replies.{done_reply, error_reply, live_reply, made_reply, page_reply, taken_reply}
 use Rattle.mt_reply.specs.declared.stamp.Stamp.{Stamp}
-use Rattle.mt_request.specs.Requests.{asked_of}
-use Rattle.mt_request.specs.declared.asked.Asked.{Asked}
-use Rattle.mt_request.specs.declared.asked.Asked.TheVariants as asked
 use Rattle.mt_request.specs.declared.asked.JobRequest.{JobRequest}
 use Rattle.mt_request.specs.declared.jobs.JobDoing.{JobDoing}
 use Rattle.mt_request.specs.declared.jobs.JobDoing.TheVariants as jobs
@@ -34,7 +30,7 @@ use Rattle.mt_types.specs.declared.limits.TheConstants.{MOST_COMMANDS, NUMBERS_A
 use Rattle.mt_types.specs.declared.live.JobStand.{JobStand}
 use Rattle.mt_types.specs.declared.live.LiveText.{LiveText}
 use Rattle.mt_types.specs.declared.reply.Reply.{Reply}
-use Rattle.mt_answer.specs.Answer.{Answer, answer_to, stamp_of}
+use Rattle.mt_answer.specs.Answer.{Answer, stamp_of}
 use Rattle.mt_answer.specs.JobJudging.{asked_job, job_refusal_of}
 use Rattle.mt_answer.specs.Posting.{posted_of}
 use Rattle.mt_answer.specs.declared.posted.Posted.{Posted}
@@ -165,13 +161,3 @@ unfoldable pub job_answer_of : List ℕ → ℕ → State (List ℕ) → ℕ →
 job_answer_of login limit s used head request body moment =
     job_answer_in length login limit (stamp_of head s.count moment) s used request (posted_of login request.doing body) (md5 body)
     (archive_asked login s request.doing moment)
-
--- by what a head asks for
-abbrev pub answer_asked : List ℕ → ℕ → State (List ℕ) → ℕ → Head → List ℕ → ℕ → Asked → Answer (List ℕ)
-answer_asked login limit s used head body moment (asked.Rows request) =
-    answer_to length md5 limit (stamp_of head s.count moment) s (conditions_of head.fields) used request body (md5 body)
-answer_asked login limit s used head body moment (asked.Jobs request) = job_answer_of login limit s used head request body moment
-
--- WHAT ANY REQUEST IS ANSWERED, of objects and directories or of jobs: what `answer_of` is to be once the program serves jobs
-unfoldable pub whole_answer_of : List ℕ → ℕ → State (List ℕ) → ℕ → Head → List ℕ → ℕ → Answer (List ℕ)
-whole_answer_of login limit s used head body moment = answer_asked login limit s used head body moment (asked_of login head)

@@ -1,8 +1,11 @@
 -- What is asked of jobs: what commands and replies need, and what holds of refusals and answers.
-use Rattle.std.specs.Prelude.{◌≡◌, ◌≤◌, ◌<◌, ◌^◌, ℕ, ⊤, IsTrue, IfSome, false, List, [], ◌∷◌, length, option_map, Option, Some, None}
+use Rattle.std.specs.Prelude.{◌≡◌, ◌≤◌, ◌<◌, ◌^◌, ◌+◌, ◌⊎◌, ℕ, ⊤, IsTrue, IfSome, false, List, [], ◌∷◌, length, option_map, Option, Some, None}
 use Rattle.std.specs.List.{AllByRecursion}
 use Rattle.md5.specs.Md5.{md5}
 use Rattle.mt_codec.specs.Spelling.{FitsDocument, FitsLine}
+use Rattle.mt_error.specs.Refusals.{plain}
+use Rattle.mt_error.specs.declared.code.ErrorCode.TheVariants as error
+use Rattle.mt_error.specs.declared.refused.Refused.{Refused}
 use Rattle.mt_http.specs.declared.message.Head.{Head}
 use Rattle.mt_jobtext.specs.Archives.{HasTexts}
 use Rattle.mt_jobtext.specs.Pieces.{IsShowable}
@@ -14,13 +17,10 @@ use Rattle.mt_model.specs.Lawful.{Lawful}
 use Rattle.mt_model.specs.Laws.{KeepsSize, Reading}
 use Rattle.mt_model.specs.Limits.{most_inputs}
 use Rattle.mt_model.specs.State.{State, job_at}
-use Rattle.mt_request.specs.Requests.{asked_of}
-use Rattle.mt_request.specs.declared.asked.Asked.TheVariants as asked
 use Rattle.mt_request.specs.declared.asked.JobRequest.{JobRequest}
 use Rattle.mt_request.specs.declared.jobs.JobDoing.{JobDoing}
 use Rattle.mt_request.specs.declared.jobs.JobDoing.TheVariants as jobs
-use Rattle.mt_request.specs.declared.request.Request.{Request}
-use Rattle.mt_types.specs.Values.{archive_with}
+use Rattle.mt_types.specs.Values.{archive_with, command_with, reply_with}
 use Rattle.mt_types.specs.Kinds.{Kind, OnRows, OnJobs, OnEnds, OnUploads}
 use Rattle.mt_types.specs.Limits.{is_number}
 use Rattle.mt_types.specs.declared.body.Body.{Body}
@@ -30,8 +30,8 @@ use Rattle.mt_types.specs.declared.job.Job.{Job}
 use Rattle.mt_types.specs.declared.limits.TheConstants.{MOST_COMMANDS}
 use Rattle.mt_types.specs.declared.live.LiveText.TheVariants as live
 use Rattle.mt_types.specs.declared.reply.ReplyBody.TheVariants.{Held}
-use Rattle.mt_answer.specs.Answer.{Answer, answer_of, answer_with, stamp_of}
-use Rattle.mt_answer.specs.JobAnswer.{archive_asked, job_answer_in, job_answer_of, job_command_of, whole_answer_of}
+use Rattle.mt_answer.specs.Answer.{Answer, answer_with, stamp_of}
+use Rattle.mt_answer.specs.JobAnswer.{archive_asked, job_answer_in, job_answer_of, job_command_of, job_growth, job_reply_to, refuse_job}
 use Rattle.mt_answer.specs.JobJudging.{job_refusal_of}
 use Rattle.mt_answer.specs.Judging.{len_of}
 use Rattle.mt_answer.specs.Posting.{posted_lines, posted_of}
@@ -91,6 +91,42 @@ JobAnswersAreRead = (read : Reading) → KeepsSize read → (login : List ℕ) (
     → job_answer_of login limit (state_with read s) used head request bytes moment
     ≡ answer_with read (job_answer_in len_of login limit (stamp_of head s.count moment) s used request (posted_of login request.doing bytes) (md5 bytes) archive)
 
+-- what is refused for this cause
+abbrev pub JobRefusedIsRead : Type 0
+JobRefusedIsRead = (read : Reading) → KeepsSize read → (login : List ℕ) (limit : ℕ) (s : State Body) (used : ℕ) (head : Head) (request : JobRequest) (bytes : List ℕ) (moment : ℕ) (r : Refused)
+    → job_refusal_of len_of request s (posted_of login request.doing bytes) (Some (md5 bytes)) ≡ Some r
+    → job_answer_of login limit (state_with read s) used head request bytes moment ≡ refuse_job (stamp_of head s.count moment) r
+
+-- what isn't refused and needs no command
+abbrev pub JobShownIsRead : Type 0
+JobShownIsRead = (read : Reading) → KeepsSize read → (login : List ℕ) (limit : ℕ) (s : State Body) (used : ℕ) (head : Head) (request : JobRequest) (bytes : List ℕ) (moment : ℕ)
+    (archive : Option (Archive Body)) → option_map (archive_with read) archive ≡ archive_asked login s request.doing moment
+    → job_refusal_of len_of request s (posted_of login request.doing bytes) (Some (md5 bytes)) ≡ None
+    → job_command_of {B = Body} request.doing (posted_of login request.doing bytes) archive moment ≡ None
+    → job_answer_of login limit (state_with read s) used head request bytes moment
+    ≡ record { reply = reply_with read (job_reply_to login (stamp_of head s.count moment) s request.doing); added = []; grew = 0 }
+
+-- whose command has room
+abbrev pub JobAddedIsRead : Type 0
+JobAddedIsRead = (read : Reading) → KeepsSize read → (login : List ℕ) (limit : ℕ) (s : State Body) (used : ℕ) (head : Head) (request : JobRequest) (bytes : List ℕ) (moment : ℕ)
+    (archive : Option (Archive Body)) (command : Command Body) → option_map (archive_with read) archive ≡ archive_asked login s request.doing moment
+    → job_refusal_of len_of request s (posted_of login request.doing bytes) (Some (md5 bytes)) ≡ None
+    → job_command_of request.doing (posted_of login request.doing bytes) archive moment ≡ Some command
+    → s.count < MOST_COMMANDS → used + job_growth len_of archive command ≤ limit
+    → job_answer_of login limit (state_with read s) used head request bytes moment ≡ record {
+      reply = reply_with read (job_reply_to login (stamp_of head (s.count + 1) moment) s request.doing);
+      added = command_with read command ∷ [];
+      grew = job_growth len_of archive command;
+    }
+
+-- whose command, with the texts of a job that it ends, has no room
+abbrev pub JobFullIsRead : Type 0
+JobFullIsRead = (read : Reading) → KeepsSize read → (login : List ℕ) (limit : ℕ) (s : State Body) (used : ℕ) (head : Head) (request : JobRequest) (bytes : List ℕ) (moment : ℕ)
+    (command : Command (List ℕ)) → job_refusal_of len_of request s (posted_of login request.doing bytes) (Some (md5 bytes)) ≡ None
+    → job_command_of request.doing (posted_of login request.doing bytes) (archive_asked login s request.doing moment) moment ≡ Some command
+    → (MOST_COMMANDS ≤ s.count) ⊎ (limit < used + job_growth length (archive_asked login s request.doing moment) command)
+    → job_answer_of login limit (state_with read s) used head request bytes moment ≡ refuse_job (stamp_of head s.count moment) (plain error.NotEnoughSpace)
+
 -- ---- refusals and commands
 
 -- the account takes the command of what isn't refused
@@ -126,8 +162,3 @@ OutputsAreTold = (login : List ℕ) (limit : ℕ) (s : State (List ℕ)) (used :
 -- in a lawful state within its limits each job can be told
 abbrev pub LawfulIsShowable : Type 0
 LawfulIsShowable = (s : State Body) → Lawful s → KeepsLimits s → s.count ≤ MOST_COMMANDS → AreShowable s.jobs
-
--- where nothing is asked of jobs, the answer is that of any request
-abbrev pub AnswersAgree : Type 0
-AnswersAgree = (login : List ℕ) (limit : ℕ) (s : State (List ℕ)) (used : ℕ) (head : Head) (body : List ℕ) (moment : ℕ) (request : Request)
-    → asked_of login head ≡ asked.Rows request → answer_of login limit s used head body moment ≡ whole_answer_of login limit s used head body moment

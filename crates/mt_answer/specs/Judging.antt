@@ -14,6 +14,8 @@ use Rattle.mt_path.specs.AccountPath.{AccountPath}
 use Rattle.mt_model.specs.Rows.{Rows, at, is_directory, make_directory_refusal, object_at}
 use Rattle.mt_request.specs.Digest.{digest_refusal}
 use Rattle.mt_request.specs.Order.{first_of}
+use Rattle.mt_request.specs.declared.asked.Asked.{Asked}
+use Rattle.mt_request.specs.declared.asked.Asked.TheVariants as asked
 use Rattle.mt_request.specs.declared.request.Doing.{Doing}
 use Rattle.mt_request.specs.declared.request.Doing.TheVariants as doing
 use Rattle.mt_request.specs.declared.query.Page.{Page}
@@ -130,3 +132,8 @@ module _ {B : Type 0} (size : B → ℕ) where
   -- how many bytes of a body of so many are stored
   abbrev pub stored_len : Request → Rows B → Conditions → ℕ → ℕ
   stored_len request rows c len = if stores_body request rows c then len else 0
+
+  -- and of what a head asks for: of what is asked of jobs none
+  abbrev pub stored_asked : Asked → Rows B → Conditions → ℕ → ℕ
+  stored_asked (asked.Rows request) rows c len = stored_len request rows c len
+  stored_asked (asked.Jobs request) rows c len = 0

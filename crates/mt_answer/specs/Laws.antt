@@ -20,7 +20,8 @@ use Rattle.mt_model.specs.State.{State}
 use Rattle.mt_path.specs.AccountPath.{AccountPath}
 use Rattle.mt_reply.specs.Replies.{stored_reply}
 use Rattle.mt_reply.specs.declared.stamp.Stamp.{Stamp}
-use Rattle.mt_request.specs.Requests.{request_of}
+use Rattle.mt_request.specs.Requests.{asked_of}
+use Rattle.mt_request.specs.declared.asked.Asked.TheVariants as asked
 use Rattle.mt_request.specs.declared.request.Doing.{Doing}
 use Rattle.mt_request.specs.declared.request.Doing.TheVariants.{PutObject, PutLink}
 use Rattle.mt_request.specs.declared.request.Request.{Request}
@@ -31,7 +32,7 @@ use Rattle.mt_types.specs.declared.command.Command.TheVariants.{Put, Link}
 use Rattle.mt_types.specs.declared.limits.TheConstants.{MOST_COMMANDS}
 use Rattle.mt_types.specs.declared.object.Field.{Field}
 use Rattle.mt_types.specs.declared.object.Object.{Object}
-use Rattle.mt_answer.specs.Answer.{answer_in, answer_of, answer_with, command_of, growth, refuse, reply_to, stamp_of}
+use Rattle.mt_answer.specs.Answer.{answer_in, answer_with, command_of, growth, refuse, reply_to, rows_answer_of, stamp_of}
 use Rattle.mt_answer.specs.Judging.{is_put_object, len_of, md5_of, refusal_of, stored_len, stores_body}
 
 -- the digest of each body of a state is that of the bytes that are read
@@ -56,57 +57,57 @@ StoringIsRead = (read : Reading) → KeepsSize read → (request : Request) (row
 
 -- the answer over bytes is that over references, where the body that is stored, if it is, stands for the bytes of the request
 abbrev pub AnswersAreRead : Type 0
-AnswersAreRead = (read : Reading) → KeepsSize read → (login : List ℕ) (limit : ℕ) (s : State Body) (used : ℕ) (head : Head) (body : Body) (bytes : List ℕ) (moment : ℕ)
-    → IsDigested read s → (stores_body len_of (request_of login head) s.rows (conditions_of head.fields) ≡ true → read body ≡ bytes)
-    → answer_of login limit (state_with read s) used head bytes moment ≡ answer_with read (answer_in len_of md5_of login limit s used head body (md5 bytes) moment)
+AnswersAreRead = (read : Reading) → KeepsSize read → (request : Request) (limit : ℕ) (s : State Body) (used : ℕ) (head : Head) (body : Body) (bytes : List ℕ) (moment : ℕ)
+    → IsDigested read s → (stores_body len_of request s.rows (conditions_of head.fields) ≡ true → read body ≡ bytes)
+    → rows_answer_of request limit (state_with read s) used head bytes moment ≡ answer_with read (answer_in len_of md5_of request limit s used head body (md5 bytes) moment)
 
 -- a request that is refused, whatever of its body was stored
 abbrev pub RefusedIsRead : Type 0
-RefusedIsRead = (read : Reading) → KeepsSize read → (login : List ℕ) (limit : ℕ) (s : State Body) (used : ℕ) (head : Head) (bytes : List ℕ) (moment : ℕ) (r : Refused)
-    → refusal_of len_of (request_of login head) s.rows (conditions_of head.fields) (Some (md5 bytes)) ≡ Some r
-    → answer_of login limit (state_with read s) used head bytes moment
-    ≡ refuse (stamp_of head s.count moment) r limit used (stored_len len_of (request_of login head) s.rows (conditions_of head.fields) (length bytes))
+RefusedIsRead = (read : Reading) → KeepsSize read → (request : Request) (limit : ℕ) (s : State Body) (used : ℕ) (head : Head) (bytes : List ℕ) (moment : ℕ) (r : Refused)
+    → refusal_of len_of request s.rows (conditions_of head.fields) (Some (md5 bytes)) ≡ Some r
+    → rows_answer_of request limit (state_with read s) used head bytes moment
+    ≡ refuse (stamp_of head s.count moment) r limit used (stored_len len_of request s.rows (conditions_of head.fields) (length bytes))
 
 -- a put whose body has no room, and that is refused for nothing else
 abbrev pub BodyWithoutRoom : Type 0
-BodyWithoutRoom = (read : Reading) → KeepsSize read → (login : List ℕ) (limit : ℕ) (s : State Body) (used : ℕ) (head : Head) (bytes : List ℕ) (moment : ℕ)
-    → stores_body len_of (request_of login head) s.rows (conditions_of head.fields) ≡ true
-    → refusal_of len_of (request_of login head) s.rows (conditions_of head.fields) (Some (md5 bytes)) ≡ None
+BodyWithoutRoom = (read : Reading) → KeepsSize read → (request : Request) (limit : ℕ) (s : State Body) (used : ℕ) (head : Head) (bytes : List ℕ) (moment : ℕ)
+    → stores_body len_of request s.rows (conditions_of head.fields) ≡ true
+    → refusal_of len_of request s.rows (conditions_of head.fields) (Some (md5 bytes)) ≡ None
     → limit < used + pieces_size (length bytes)
-    → answer_of login limit (state_with read s) used head bytes moment
+    → rows_answer_of request limit (state_with read s) used head bytes moment
     ≡ refuse (stamp_of head s.count moment) (plain error.NotEnoughSpace) limit used (length bytes)
 
 -- a request that isn't refused and needs no command
 abbrev pub ShownIsRead : Type 0
-ShownIsRead = (read : Reading) → KeepsSize read → (login : List ℕ) (limit : ℕ) (s : State Body) (used : ℕ) (head : Head) (body : Body) (bytes : List ℕ) (moment : ℕ)
-    → IsDigested read s → refusal_of len_of (request_of login head) s.rows (conditions_of head.fields) (Some (md5 bytes)) ≡ None
-    → command_of s.rows (request_of login head).doing body moment ≡ None
-    → answer_of login limit (state_with read s) used head bytes moment ≡ record {
-      reply = reply_with read (reply_to len_of md5_of (stamp_of head s.count moment) s.count s.rows (conditions_of head.fields) (request_of login head).doing (md5 bytes));
+ShownIsRead = (read : Reading) → KeepsSize read → (request : Request) (limit : ℕ) (s : State Body) (used : ℕ) (head : Head) (body : Body) (bytes : List ℕ) (moment : ℕ)
+    → IsDigested read s → refusal_of len_of request s.rows (conditions_of head.fields) (Some (md5 bytes)) ≡ None
+    → command_of s.rows request.doing body moment ≡ None
+    → rows_answer_of request limit (state_with read s) used head bytes moment ≡ record {
+      reply = reply_with read (reply_to len_of md5_of (stamp_of head s.count moment) s.count s.rows (conditions_of head.fields) request.doing (md5 bytes));
       added = [];
       grew = 0;
     }
 
 -- a request whose command has room: the body of a put is the one that is stored
 abbrev pub AddedIsRead : Type 0
-AddedIsRead = (read : Reading) → KeepsSize read → (login : List ℕ) (limit : ℕ) (s : State Body) (used : ℕ) (head : Head) (body : Body) (bytes : List ℕ) (moment : ℕ) (command : Command Body)
-    → IsDigested read s → refusal_of len_of (request_of login head) s.rows (conditions_of head.fields) (Some (md5 bytes)) ≡ None
-    → command_of s.rows (request_of login head).doing body moment ≡ Some command → (is_put_object (request_of login head).doing ≡ true → read body ≡ bytes)
-    → s.count < MOST_COMMANDS → used + growth (body_len (request_of login head).doing (length bytes)) command ≤ limit
-    → answer_of login limit (state_with read s) used head bytes moment ≡ record {
-      reply = reply_with read (reply_to len_of md5_of (stamp_of head (s.count + 1) moment) s.count s.rows (conditions_of head.fields) (request_of login head).doing (md5 bytes));
+AddedIsRead = (read : Reading) → KeepsSize read → (request : Request) (limit : ℕ) (s : State Body) (used : ℕ) (head : Head) (body : Body) (bytes : List ℕ) (moment : ℕ) (command : Command Body)
+    → IsDigested read s → refusal_of len_of request s.rows (conditions_of head.fields) (Some (md5 bytes)) ≡ None
+    → command_of s.rows request.doing body moment ≡ Some command → (is_put_object request.doing ≡ true → read body ≡ bytes)
+    → s.count < MOST_COMMANDS → used + growth (body_len request.doing (length bytes)) command ≤ limit
+    → rows_answer_of request limit (state_with read s) used head bytes moment ≡ record {
+      reply = reply_with read (reply_to len_of md5_of (stamp_of head (s.count + 1) moment) s.count s.rows (conditions_of head.fields) request.doing (md5 bytes));
       added = command_with read command ∷ [];
-      grew = growth (body_len (request_of login head).doing (length bytes)) command;
+      grew = growth (body_len request.doing (length bytes)) command;
     }
 
 -- a request whose command has no room, behind its body where that has
 abbrev pub FullIsRead : Type 0
-FullIsRead = (read : Reading) → KeepsSize read → (login : List ℕ) (limit : ℕ) (s : State Body) (used : ℕ) (head : Head) (body : Body) (bytes : List ℕ) (moment : ℕ) (command : Command Body)
-    → IsDigested read s → refusal_of len_of (request_of login head) s.rows (conditions_of head.fields) (Some (md5 bytes)) ≡ None
-    → command_of s.rows (request_of login head).doing body moment ≡ Some command → (is_put_object (request_of login head).doing ≡ true → read body ≡ bytes)
-    → (MOST_COMMANDS ≤ s.count) ⊎ (limit < used + growth (body_len (request_of login head).doing (length bytes)) command)
-    → answer_of login limit (state_with read s) used head bytes moment
-    ≡ refuse (stamp_of head s.count moment) (plain error.NotEnoughSpace) limit used (body_len (request_of login head).doing (length bytes))
+FullIsRead = (read : Reading) → KeepsSize read → (request : Request) (limit : ℕ) (s : State Body) (used : ℕ) (head : Head) (body : Body) (bytes : List ℕ) (moment : ℕ) (command : Command Body)
+    → IsDigested read s → refusal_of len_of request s.rows (conditions_of head.fields) (Some (md5 bytes)) ≡ None
+    → command_of s.rows request.doing body moment ≡ Some command → (is_put_object request.doing ≡ true → read body ≡ bytes)
+    → (MOST_COMMANDS ≤ s.count) ⊎ (limit < used + growth (body_len request.doing (length bytes)) command)
+    → rows_answer_of request limit (state_with read s) used head bytes moment
+    ≡ refuse (stamp_of head s.count moment) (plain error.NotEnoughSpace) limit used (body_len request.doing (length bytes))
 
 -- ---- refusals and commands
 
@@ -117,8 +118,8 @@ StaysRefused = (request : Request) (rows : Rows Body) (c : Conditions) (digest :
 
 -- the account takes the command of a request that isn't refused
 abbrev pub DoneIsAllowed : Type 0
-DoneIsAllowed = (login : List ℕ) (head : Head) (s : State Body) (c : Conditions) (digest : Option (List ℕ)) (body : Body) (moment : ℕ) (command : Command Body)
-    → refusal_of len_of (request_of login head) s.rows c digest ≡ None → command_of s.rows (request_of login head).doing body moment ≡ Some command
+DoneIsAllowed = (login : List ℕ) (head : Head) (request : Request) (s : State Body) (c : Conditions) (digest : Option (List ℕ)) (body : Body) (moment : ℕ) (command : Command Body)
+    → asked_of login head ≡ asked.Rows request → refusal_of len_of request s.rows c digest ≡ None → command_of s.rows request.doing body moment ≡ Some command
     → allowed len_of s command ≡ None
 
 -- ---- what a put is told

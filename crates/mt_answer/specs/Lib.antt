@@ -6,3 +6,4 @@ pub mod Judging
 pub mod Laws
 pub mod Lines
 pub mod Posting
+pub mod Whole

@@ -1,5 +1,5 @@
 //! The reply to what is asked of jobs and isn't refused.
-ghost use Rattle.std.specs.Prelude.{◌≡◌, ◌*◌, ◌≤◌, ◌<◌, IfOk};
+ghost use Rattle.std.specs.Prelude.{◌≡◌, ◌*◌, ◌≤◌, IfOk};
 ghost use Rattle.mt_jobs.specs.Shown.{state_of};
 ghost use Rattle.mt_model.specs.Rows.{Rows};
 ghost use Rattle.mt_model.specs.Names.{job_folder};
@@ -27,7 +27,7 @@ fn job_reply(
     count: u64,
 ) -> Result<Reply<Body>, AllocError>
     requires moment { stamp.moment ≤ LAST_MOMENT }
-    requires count { count < MOST_COMMANDS }
+    requires count { count ≤ MOST_COMMANDS }
     ensures { IfOk result (λ reply. reply ≡ made_reply stamp (path_text login.now (job_folder (count * NUMBERS_A_COMMAND)))) }
 {
     let folder = job_folder(alloc, count * NUMBERS_A_COMMAND)?;
@@ -99,7 +99,7 @@ pub fn job_reply_to(
     doing: &JobDoing,
 ) -> Result<Reply<Body>, AllocError>
     requires moment { stamp.moment ≤ LAST_MOMENT }
-    requires count { count < MOST_COMMANDS }
+    requires count { count ≤ MOST_COMMANDS }
     requires jobs { AreShowable jobs.now }
     ensures { IfOk result (λ reply. (rows : Rows Body) → reply ≡ words.job_reply_to login.now stamp (state_of count rows jobs.now) doing.now) }
 {

@@ -1,12 +1,20 @@
 //! Laws of what is asked of jobs: answers over references are those over the bytes that they stand for, what isn't refused may be done, and
 //! what is told of jobs.
-ghost use Rattle.mt_answer.specs.JobLaws.{AnswersAgree, CancelsHaveTexts, JobAnswersAreRead, JobDoneIsAllowed, JobNumberIsOne, JobRefusalsAreRead, LawfulIsShowable, LinesAreSplit, OutputsAreTold, PostedIsWithin};
+ghost use Rattle.mt_answer.specs.JobLaws.{CancelsHaveTexts, JobAddedIsRead, JobAnswersAreRead, JobDoneIsAllowed, JobFullIsRead, JobNumberIsOne, JobRefusalsAreRead, JobRefusedIsRead, JobShownIsRead, LawfulIsShowable, LinesAreSplit, OutputsAreTold, PostedIsWithin};
 
 /// Over a state of references what is asked of jobs is refused for the same cause as over the bytes that are read for them, and answered
 /// the same: the same reply, the same command and the same growth, by their bodies' bytes.
 pub fn job_answers_are_read()
     ensures refusal { JobRefusalsAreRead }
     ensures answer { JobAnswersAreRead }
+{}
+
+/// The same by what was done: it is refused, nothing is added, a command is added, or it has no room.
+pub fn job_done_is_read()
+    ensures refused { JobRefusedIsRead }
+    ensures shown { JobShownIsRead }
+    ensures added { JobAddedIsRead }
+    ensures full { JobFullIsRead }
 {}
 
 /// The account takes the command of what isn't refused, and a job that it changes is told by a number of jobs.
@@ -35,9 +43,4 @@ pub fn lawful_is_showable()
 pub fn posted_is_within()
     ensures within { PostedIsWithin }
     ensures lines { LinesAreSplit }
-{}
-
-/// Where nothing is asked of jobs, the answer is that of any request, as it is to be once the program serves jobs.
-pub fn answers_agree()
-    ensures { AnswersAgree }
 {}

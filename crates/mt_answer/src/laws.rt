@@ -1,4 +1,5 @@
 //! Laws: answers over references are those over the bytes that they stand for, and what isn't refused may be done.
+ghost use Rattle.mt_answer.specs.Whole.{AddsOneAtMost};
 ghost use Rattle.mt_answer.specs.Laws.{AddedIsRead, AnswersAreRead, BodyWithoutRoom, DoneIsAllowed, FullIsRead, LawfulIsListable, LinkIsTold, PutIsTold, RefusalsAreRead, RefusedIsRead, ShownIsRead, StaysRefused, StoringIsRead};
 
 /// Over a state of references a request is answered as over the bytes that are read for them: the same reply, the same command and
@@ -41,4 +42,9 @@ pub fn puts_are_told()
 /// The rows of a lawful state within its limits can be told in replies and on pages.
 pub fn lawful_is_listable()
     ensures { LawfulIsListable }
+{}
+
+/// A request adds one command at most.
+pub fn answers_add_one()
+    ensures { AddsOneAtMost }
 {}

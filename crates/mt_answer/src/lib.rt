@@ -5,8 +5,8 @@
 //! - `command`: the command that does it. `done`: the reply to what is done. `look`: to what is looked at; `page`: the rows of a page.
 //! - `posted`: what a body asks of jobs. `job_judge`, `job_command`, `job_done`, `job_page`: the same of what is asked of jobs.
 //! - `laws`: answers over references are those over the bytes that they stand for; what isn't refused may be done.
-//! - `specs/Judging`: the order of refusals (`refusal_of`). `specs/Answer`: the answer (`answer_of`). `specs/JobJudging`, `specs/JobAnswer`:
-//!   the same of jobs (`job_answer_of`).
+//! - `specs/Whole`: the answer (`answer_of`). `specs/Judging`, `specs/Answer`: the order of refusals and the answer where something is asked of
+//!   objects and directories; `specs/JobJudging`, `specs/JobAnswer`: the same of jobs.
 #![tactic(auto)]
 
 mod command;

@@ -3,14 +3,12 @@ use Rattle.std.proofs.Common.{◌≡◌, ◌≢◌, ℕ, List, [], ◌++◌, Opt
 use Rattle.std.specs.Prelude.{option_map}
 use Rattle.mt_body.specs.Filling.{AtEnd}
 use Rattle.mt_edge.specs.Stream.{LeftAfter}
-use Rattle.mt_http.specs.Body.{BodyState, Told}
-use Rattle.mt_http.specs.BodyReading.{Finished, after_body}
+use Rattle.mt_http.specs.Body.{BodyState}
+use Rattle.mt_http.specs.BodyReading.{Finished}
+use Rattle.mt_http.specs.Further.{BodyGoesOn}
 use Rattle.mt_http.specs.declared.message.Ending.{Ending}
 use Rattle.mt_http.specs.declared.message.Ending.TheVariants as ending
-use Rattle.mt_http.specs.declared.stage.Stage.TheVariants as at
-use Rattle.mt_http.proofs.Bodies.{told_over}
 use Rattle.mt_http.specs.declared.stream.BodyStream.{BodyStream}
-use Rattle.mt_api.specs.GoingOn.{BodyGoesOn}
 use Rattle.mt_api.specs.Steps.{EndsSo, IsAll, IsFront, ReadsSo, end_of}
 use Rattle.mt_api.specs.declared.bodies.BodyEnd.{BodyEnd}
 use Rattle.mt_api.specs.declared.bodies.BodyEnd.TheVariants as body_end
@@ -71,14 +69,6 @@ ended_so s s' left left' (Some ending.Whole) f = f.0
 ended_so s s' left left' (Some ending.Truncated) f = (f.0, λ (e : ending.Truncated ≡ ending.Whole). cc)
 ended_so s s' left left' (Some ending.Bad) f = (f.0, λ (e : ending.Bad ≡ ending.Whole). cc)
 ended_so s s' left left' (Some ending.TooLarge) f = (f.0, λ (e : ending.TooLarge ≡ ending.Whole). cc)
-
-pub over_after : (s : BodyState) (e : Ending) (left : Option (List ℕ)) → s.stage ≡ at.Over e → after_body s left ≡ option_map (λ rest. (e, rest)) left
-over_after s e None is = refl
-over_after s e (Some bytes) is = ap (λ (t : Told). Some (t.ending, t.rest)) (told_over s e bytes is)
-
-pub finished_after : (s s' : BodyState) (left left' : Option (List ℕ)) (r : Option Ending) → Finished s left r s' left' → after_body s' left' ≡ after_body s left
-finished_after s s' left left' None f = f
-finished_after s s' left left' (Some e) f = over_after s' e left' f.0 ∙ sym f.1
 
 -- only a source that failed has no end
 pub fault_none : (r : Option Ending) → end_of r ≡ body_end.SourceFault → r ≡ None

@@ -4,3 +4,6 @@ pub mod Adds
 pub mod Puts
 pub mod Plain
 pub mod Tops
+pub mod Jobs
+pub mod JobAdds
+pub mod Cancels

@@ -55,7 +55,7 @@ use Rattle.mt_types.specs.declared.object.Entry.TheVariants as entry
 use Rattle.mt_types.specs.declared.object.Object.{Object}
 use Rattle.mt_types.specs.declared.reply.Reply.{Reply}
 use Rattle.mt_api.specs.Answered.{Asked, CanBeSent, IsShown, Shows, answer_at, left_behind, used}
-use Rattle.mt_api.specs.Steps.{IsPlain, IsReady, Replies, Settles, call_of, refusal}
+use Rattle.mt_api.specs.Steps.{IsCallOf, IsPlain, IsReady, Replies, Settles, refusal}
 use Rattle.mt_api.specs.declared.answered.Answered.{Answered}
 use Rattle.mt_api.specs.declared.answered.Answered.TheVariants as answered
 use Rattle.mt_api.specs.declared.call.Call.{Call}
@@ -102,7 +102,7 @@ no_put is = cc
 no_len : (d : Doing) (n : ℕ) → is_put_object d ≡ false → body_len d n ≡ 0
 no_len d n is = ap (λ (b : Bool). if b then n else 0) is
 
-module _ (seen : Option Files) (engine : EngineState) (base : State Bytes) (h : History) (i : IsCurrent seen engine base h) (asked : Asked) (call : Call) (e : call ≡ call_of asked engine) (is_plain : IsPlain engine call) where
+module _ (seen : Option Files) (engine : EngineState) (base : State Bytes) (h : History) (i : IsCurrent seen engine base h) (asked : Asked) (call : Call) (e : IsCallOf asked engine call) (is_plain : IsPlain engine call) where
   ps : List (List ℕ)
   ps = payloads_of i.is_read.files
 
@@ -143,16 +143,16 @@ module _ (seen : Option Files) (engine : EngineState) (base : State Bytes) (h : 
       grew = 0;
     }
     shown_is =
-        let none' = subst (λ (x : Call). refusal engine x (Some (md5 bytes)) ≡ None) e none in
-        let command' = subst (λ (x : Call). command_of engine.state.rows x.request.doing body x.stamp.moment ≡ None) e no_command in
+        let none' = subst (λ (x : Call). refusal engine x (Some (md5 bytes)) ≡ None) e.is none in
+        let command' = subst (λ (x : Call). command_of engine.state.rows x.request.doing body x.stamp.moment ≡ None) e.is no_command in
         let digested = state_weaker (IsStored (payloads_of i.is_read.files)) (λ b. b.md5 ≡ md5 (bytes_of (payloads_of i.is_read.files) b)) (λ b at. at.digest) engine.state holds.stored in
         subst (λ (x : Call). answer_at asked engine (replay base h) bytes ≡ record {
           reply = reply_with (bytes_of (payloads_of i.is_read.files)) (reply_to len_of md5_of x.stamp engine.state.count engine.state.rows x.conditions x.request.doing (md5 bytes));
           added = [];
           grew = 0;
-        }) (sym e)
+        }) (sym e.is)
         (at_state engine base h (payloads_of i.is_read.files) holds asked call e bytes
-        ∙ shown_read (bytes_of (payloads_of i.is_read.files)) (length-bytes_of (payloads_of i.is_read.files)) asked.login engine.log.limit engine.state (used engine) asked.head body bytes asked.moment digested none' command')
+        ∙ shown_read (bytes_of (payloads_of i.is_read.files)) (length-bytes_of (payloads_of i.is_read.files)) call.request engine.log.limit engine.state (used engine) asked.head body bytes asked.moment digested none' command')
 
     same_sum : reply_to len_of md5_of call.stamp engine.state.count engine.state.rows call.conditions call.request.doing sum ≡ reply_to len_of md5_of call.stamp engine.state.count engine.state.rows call.conditions call.request.doing (md5 bytes)
     same_sum = sum_free call.stamp engine.state.count engine.state.rows call.conditions call.request.doing sum (md5 bytes) (λ put. absurd (no_put (sym (not_put engine call (md5 bytes) is_plain none) ∙ put)))

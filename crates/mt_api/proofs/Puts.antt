@@ -3,10 +3,11 @@ use Rattle.std.proofs.Common.{◌≡◌, ◌≢◌, ◌≤◌, ◌<◌, ℕ, ◌
 use Rattle.std.specs.Prelude.{if◌then◌else◌, is_some, nat_le, not}
 use Rattle.std.proofs.lemmas.Bool.{le-leb, lt-leb}
 use Rattle.md5.specs.Md5.{md5}
-use Rattle.mt_answer.specs.Answer.{command_of}
-use Rattle.mt_answer.specs.Judging.{is_put_object, len_of, refusal_of, stored_len}
+use Rattle.mt_answer.specs.Answer.{Answer, command_of, rows_answer_of}
+use Rattle.mt_answer.specs.Judging.{is_put_object, len_of, refusal_of, stored_asked, stored_len}
 use Rattle.mt_answer.specs.Laws.{body_len}
 use Rattle.mt_answer.proofs.AnswersRead.{full_read, refused_read, storing_read}
+use Rattle.mt_answer.proofs.Whole.{rows_at}
 use Rattle.mt_base.specs.Lists.{IsPrefixOf}
 use Rattle.mt_body.specs.Stored.{bytes_of, pieces_size, pieces_that_fit}
 use Rattle.mt_body.proofs.Keeping.{length-bytes_of}
@@ -28,12 +29,12 @@ use Rattle.mt_model.specs.CommandStep.{replay}
 use Rattle.mt_model.specs.Rows.{Rows}
 use Rattle.mt_model.specs.State.{State}
 use Rattle.mt_reply.specs.Replies.{error_reply}
-use Rattle.mt_request.specs.Requests.{request_of}
+use Rattle.mt_request.specs.declared.asked.Asked.{Asked as HeadAsks}
 use Rattle.mt_request.specs.declared.request.Doing.{Doing}
 use Rattle.mt_request.specs.declared.request.Doing.TheVariants as doing
 use Rattle.mt_types.specs.declared.body.Body.{Body}
 use Rattle.mt_api.specs.Answered.{Asked, answer_at, left_behind, used}
-use Rattle.mt_api.specs.Steps.{Adds, EndsWith, Goes, HasNoRoom, IsAll, IsFront, IsReady, IsWhole, Settles, StoresBody, call_of, refusal, without_room}
+use Rattle.mt_api.specs.Steps.{Adds, EndsWith, Goes, HasNoRoom, IsAll, IsCallOf, IsFront, IsReady, IsWhole, Settles, StoresBody, refusal, without_room}
 use Rattle.mt_api.specs.declared.answered.Answered.{Answered}
 use Rattle.mt_api.specs.declared.answered.Answered.TheVariants as answered
 use Rattle.mt_api.specs.declared.call.Call.{Call}
@@ -128,27 +129,30 @@ lacking_full seen engine run base h qs bytes more w =
 
 -- ---- over a history
 
-module _ (engine : EngineState) (base : State Bytes) (h : History) (qs : List (List ℕ)) (holds : Holding qs engine.state base h) (asked : Asked) (call : Call) (e : call ≡ call_of asked engine) where
+module _ (engine : EngineState) (base : State Bytes) (h : History) (qs : List (List ℕ)) (holds : Holding qs engine.state base h) (asked : Asked) (call : Call) (e : IsCallOf asked engine call) where
   state_is : state_with (bytes_of qs) engine.state ≡ replay base h
   state_is = holds.state
 
-  pub at_state : (bytes : Bytes) → answer_at asked engine (replay base h) bytes ≡ answer_at asked engine (state_with (bytes_of qs) engine.state) bytes
-  at_state bytes = ap (λ (s : State Bytes). answer_at asked engine s bytes) (sym state_is)
+  pub at_state : (bytes : Bytes) → answer_at asked engine (replay base h) bytes ≡ rows_answer_of call.request engine.log.limit (state_with (bytes_of qs) engine.state) (used engine) asked.head bytes asked.moment
+  at_state bytes =
+      ap (λ (s : State Bytes). answer_at asked engine s bytes) (sym state_is)
+      ∙ rows_at asked.login engine.log.limit (state_with (bytes_of qs) engine.state) (used engine) asked.head call.request bytes asked.moment e.asks
 
   -- a request is refused by its digest
   pub refused_answer : (bytes : Bytes) (r : Refused) → refusal engine call (Some (md5 bytes)) ≡ Some r
       → answer_at asked engine (replay base h) bytes ≡ record { reply = error_reply call.stamp r; added = []; grew = pieces_that_fit engine.log.limit (used engine) (stored_len len_of call.request engine.state.rows call.conditions (length bytes)) }
   refused_answer bytes r is =
-      let is' = subst (λ (x : Call). refusal engine x (Some (md5 bytes)) ≡ Some r) e is in
-      subst (λ (x : Call). answer_at asked engine (replay base h) bytes ≡ record { reply = error_reply x.stamp r; added = []; grew = pieces_that_fit engine.log.limit (used engine) (stored_len len_of x.request engine.state.rows x.conditions (length bytes)) }) (sym e)
-      (at_state bytes ∙ refused_read (bytes_of qs) (length-bytes_of qs) asked.login engine.log.limit engine.state (used engine) asked.head bytes asked.moment r is')
+      let is' = subst (λ (x : Call). refusal engine x (Some (md5 bytes)) ≡ Some r) e.is is in
+      subst (λ (x : Call). answer_at asked engine (replay base h) bytes ≡ record { reply = error_reply x.stamp r; added = []; grew = pieces_that_fit engine.log.limit (used engine) (stored_len len_of x.request engine.state.rows x.conditions (length bytes)) }) (sym e.is)
+      (at_state bytes ∙ refused_read (bytes_of qs) (length-bytes_of qs) call.request engine.log.limit engine.state (used engine) asked.head bytes asked.moment r is')
 
   -- what stays of a body of these bytes
   pub left_is : (bytes : Bytes) → left_behind asked engine (replay base h) bytes ≡ pieces_that_fit engine.log.limit (used engine) (stored_len len_of call.request engine.state.rows call.conditions (length bytes))
   left_is bytes =
-      subst (λ (x : Call). left_behind asked engine (replay base h) bytes ≡ pieces_that_fit engine.log.limit (used engine) (stored_len len_of x.request engine.state.rows x.conditions (length bytes))) (sym e)
+      subst (λ (x : Call). left_behind asked engine (replay base h) bytes ≡ pieces_that_fit engine.log.limit (used engine) (stored_len len_of x.request engine.state.rows x.conditions (length bytes))) (sym e.is)
       (ap (λ (s : State Bytes). left_behind asked engine s bytes) (sym state_is)
-      ∙ ap (λ (b : Bool). pieces_that_fit engine.log.limit (used engine) (if b then length bytes else 0)) (storing_read (bytes_of qs) (length-bytes_of qs) (request_of asked.login asked.head) engine.state.rows (conditions_of asked.head.fields)))
+      ∙ ap (λ (a : HeadAsks). pieces_that_fit engine.log.limit (used engine) (stored_asked length a (state_with (bytes_of qs) engine.state).rows (conditions_of asked.head.fields) (length bytes))) e.asks
+      ∙ ap (λ (b : Bool). pieces_that_fit engine.log.limit (used engine) (if b then length bytes else 0)) (storing_read (bytes_of qs) (length-bytes_of qs) call.request engine.state.rows (conditions_of asked.head.fields)))
 
   module _ (stores : StoresBody engine call) where
     pub stored_is : (n : ℕ) → stored_len len_of call.request engine.state.rows call.conditions n ≡ n
@@ -163,10 +167,10 @@ module _ (engine : EngineState) (base : State Bytes) (h : History) (qs : List (L
     full_refused : (bytes : Bytes) → refusal engine call (Some (md5 bytes)) ≡ None → engine.log.limit < used engine + pieces_size (length bytes)
         → answer_at asked engine (replay base h) bytes ≡ record { reply = error_reply call.stamp (plain error.NotEnoughSpace); added = []; grew = pieces_that_fit engine.log.limit (used engine) (length bytes) }
     full_refused bytes none full =
-        let none' = subst (λ (x : Call). refusal engine x (Some (md5 bytes)) ≡ None) e none in
-        let stores' = subst (λ (x : Call). StoresBody engine x) e stores in
-        subst (λ (x : Call). answer_at asked engine (replay base h) bytes ≡ record { reply = error_reply x.stamp (plain error.NotEnoughSpace); added = []; grew = pieces_that_fit engine.log.limit (used engine) (length bytes) }) (sym e)
-        (at_state bytes ∙ full_read (bytes_of qs) (length-bytes_of qs) asked.login engine.log.limit engine.state (used engine) asked.head bytes asked.moment stores' none' full)
+        let none' = subst (λ (x : Call). refusal engine x (Some (md5 bytes)) ≡ None) e.is none in
+        let stores' = subst (λ (x : Call). StoresBody engine x) e.is stores in
+        subst (λ (x : Call). answer_at asked engine (replay base h) bytes ≡ record { reply = error_reply x.stamp (plain error.NotEnoughSpace); added = []; grew = pieces_that_fit engine.log.limit (used engine) (length bytes) }) (sym e.is)
+        (at_state bytes ∙ full_read (bytes_of qs) (length-bytes_of qs) call.request engine.log.limit engine.state (used engine) asked.head bytes asked.moment stores' none' full)
 
     -- a body without room
     pub without_room_refused : (bytes : Bytes) → (r : Option Refused) → refusal engine call (Some (md5 bytes)) ≡ r → engine.log.limit < used engine + pieces_size (length bytes)
@@ -223,6 +227,19 @@ goes_on answered.SourceFault asked engine base h left stage' seen' engine' k goe
 goes_on answered.Disk asked engine base h left stage' seen' engine' k goes =
     ⊎_elim (λ at. ([], append-nil h ∙ sym at)) (λ at. ((answer_at asked engine (replay base h) at.0).added, sym at.3)) goes.1
 goes_on answered.Memory asked engine base h left stage' seen' engine' k goes = ([], append-nil h ∙ sym goes.0)
+
+-- and so it does from an answer
+pub settles_on : (result : Answered) (answer : Answer Bytes) (before : ℕ) (base : State Bytes) (h : History) (seen' : Option Files) (engine' : EngineState) (k : History)
+    → Settles result answer before base h seen' engine' k → IsPrefixOf h k
+settles_on (answered.Replied reply) answer before base h seen' engine' k settles = (answer.added, sym settles.history)
+settles_on (answered.Unfinished e) answer before base h seen' engine' k settles = absurd settles
+settles_on answered.SourceFault answer before base h seen' engine' k settles = absurd settles
+settles_on answered.Disk answer before base h seen' engine' k settles = ⊎_elim (λ at. ([], append-nil h ∙ sym at)) (λ at. (answer.added, sym at)) settles.1
+settles_on answered.Memory answer before base h seen' engine' k settles = ([], append-nil h ∙ sym settles.0)
+
+-- a call over an engine that is the same
+pub call_there : (asked : Asked) (engine engine' : EngineState) (call : Call) → engine ≡ engine' → IsCallOf asked engine call → IsCallOf asked engine' call
+call_there asked engine engine' call same is = subst (λ (x : EngineState). IsCallOf asked x call) same is
 
 -- nothing was read yet
 pub none_taken : (left : Option (List ℕ)) → LeftAfter left [] left

@@ -6,6 +6,7 @@ use Rattle.mt_base.specs.Lists.{IsPrefixOf}
 use Rattle.mt_disk.specs.Files.{Files}
 use Rattle.mt_engine.specs.Current.{EngineState, IsCurrent, Serves}
 use Rattle.mt_engine.specs.History.{Bytes, History}
+use Rattle.mt_http.proofs.Finishes.{over_after}
 use Rattle.mt_http.specs.Body.{BodyState, Told, told_from}
 use Rattle.mt_http.specs.BodyReading.{after_body, body_left}
 use Rattle.mt_http.specs.declared.message.Ending.{Ending}
@@ -17,7 +18,6 @@ use Rattle.mt_api.specs.Answered.{Answers, Asked, EndsBody, Hears, said}
 use Rattle.mt_api.specs.Steps.{Goes, IsAll, IsFront}
 use Rattle.mt_api.specs.declared.answered.Answered.{Answered}
 use Rattle.mt_api.specs.declared.answered.Answered.TheVariants as answered
-use Rattle.mt_api.proofs.Lefts.{over_after}
 
 all_said : (s : BodyState) (left : Option (List ℕ)) (bytes : Bytes) → IsAll (body_left s left) bytes → IfSome (said s left) (λ t. t.body ≡ bytes)
 all_said s None bytes all = tt

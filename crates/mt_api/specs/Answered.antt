@@ -1,8 +1,9 @@
 -- What became of a request: what was read of its body, the history that the disk then has, and what the reply shows.
 use Rattle.std.specs.Prelude.{◌≡◌, ◌≢◌, ◌⊎◌, ℕ, ◌+◌, ◌≤◌, true, false, List, ◌++◌, length, Option, Some, IfSome, option_map}
 use Rattle.std.specs.Option.{ForSome}
-use Rattle.mt_answer.specs.Answer.{Answer, answer_of}
-use Rattle.mt_answer.specs.Judging.{stored_len}
+use Rattle.mt_answer.specs.Answer.{Answer}
+use Rattle.mt_answer.specs.Judging.{stored_asked}
+use Rattle.mt_answer.specs.Whole.{answer_of}
 use Rattle.mt_base.specs.Lists.{IsPrefixOf}
 use Rattle.mt_body.specs.Stored.{IsStored, bytes_of, pieces_that_fit}
 use Rattle.mt_cond.specs.Conditions.{conditions_of}
@@ -19,7 +20,7 @@ use Rattle.mt_model.specs.CommandStep.{replay}
 use Rattle.mt_model.specs.Rows.{object_at}
 use Rattle.mt_model.specs.State.{State}
 use Rattle.mt_path.specs.AccountPath.{AccountPath}
-use Rattle.mt_request.specs.Requests.{request_of}
+use Rattle.mt_request.specs.Requests.{asked_of}
 use Rattle.mt_types.specs.Values.{reply_with}
 use Rattle.mt_types.specs.declared.body.Body.{Body}
 use Rattle.mt_types.specs.declared.object.Object.{Object}
@@ -52,7 +53,7 @@ answer_at asked engine s bytes = answer_of asked.login engine.log.limit s (used 
 -- head and the state take
 abbrev pub left_behind : Asked → EngineState → State Bytes → Bytes → ℕ
 left_behind asked engine s bytes =
-    pieces_that_fit engine.log.limit (used engine) (stored_len length (request_of asked.login asked.head) s.rows (conditions_of asked.head.fields) (length bytes))
+    pieces_that_fit engine.log.limit (used engine) (stored_asked length (asked_of asked.login asked.head) s.rows (conditions_of asked.head.fields) (length bytes))
 
 -- The body was read to its end before a reply is given, and to its end where it is not whole; the source stands at what follows.
 abbrev pub Hears : Answered → Told → Option (List ℕ) → Type 0

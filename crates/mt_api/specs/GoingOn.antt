@@ -1,12 +1,10 @@
 -- What the steps of an answer ask of what they are given, and what they all keep.
-use Rattle.std.specs.Prelude.{◌≡◌, ◌≢◌, ℕ, ◌≤◌, false, IsTrue, List, Option}
-use Rattle.mt_base.specs.Counts.{NeverFell, Rose}
+use Rattle.std.specs.Prelude.{◌≡◌, ◌≢◌, ℕ, ◌≤◌, false, IsTrue, Option}
+use Rattle.mt_base.specs.Counts.{Rose}
 use Rattle.mt_base.specs.declared.limits.TheConstants.{LAST_MOMENT}
 use Rattle.mt_disk.specs.Files.{Files}
 use Rattle.mt_engine.specs.Current.{EngineState}
 use Rattle.mt_engine.specs.Ready.{EngineIsReady, EngineStays, RunIsReady}
-use Rattle.mt_http.specs.BodyReading.{after_body}
-use Rattle.mt_http.specs.declared.stream.BodyStream.{BodyStream}
 use Rattle.mt_log.specs.LogState.{Stands}
 use Rattle.mt_log.specs.RunState.{RunState}
 use Rattle.mt_request.specs.Laws.{FitsDoing}
@@ -50,12 +48,3 @@ pub record SettlesCall {D : Type 0} (seen : D → Option Files) (may_leave : D �
   pub keeps : StepKeeps seen may_leave count old new result engine engine'
   pub is_settled : IsSettled result
   pub sends : CanBeSent result (seen new) engine'
-
--- A body is read further from the source that it was read from. What reading leaves alone stays, and so do its end and what follows
--- it. The count of the source's faults doesn't fall, and rises where the source failed.
-pub record BodyGoesOn {X : Type 0} (left : X → Option (List ℕ)) (count : X → ℕ) (alone : X → X → Type 0) (old new : BodyStream X) (fault : Type 0) : Type 0 where
-  pub source : new.source.ghost_name ≡ old.source.ghost_name
-  pub stays : alone old.source.now new.source.now
-  pub after : after_body new.framer (left new.source.now) ≡ after_body old.framer (left old.source.now)
-  pub reads : NeverFell (count old.source.now) (count new.source.now)
-  pub failed : fault → Rose (count old.source.now) (count new.source.now)

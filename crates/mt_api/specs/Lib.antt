@@ -1,3 +1,4 @@
 pub mod Answered
 pub mod GoingOn
+pub mod Jobs
 pub mod Steps

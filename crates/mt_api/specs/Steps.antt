@@ -22,9 +22,11 @@ use Rattle.mt_log.specs.RunState.{RunState}
 use Rattle.mt_model.specs.CommandStep.{replay}
 use Rattle.mt_model.specs.State.{State}
 use Rattle.mt_request.specs.Digest.{digest_refusal}
-use Rattle.mt_request.specs.Requests.{request_of}
+use Rattle.mt_request.specs.Requests.{asked_of}
+use Rattle.mt_request.specs.declared.asked.Asked.TheVariants as head
 use Rattle.mt_request.specs.declared.digest.Wish.{Wish}
 use Rattle.mt_request.specs.declared.request.Doing.{Doing}
+use Rattle.mt_request.specs.declared.request.Request.{Request}
 use Rattle.mt_types.specs.declared.body.Body.{Body}
 use Rattle.mt_types.specs.declared.reply.Reply.{Reply}
 use Rattle.mt_types.specs.declared.reply.ReplyBody.{ReplyBody}
@@ -86,13 +88,14 @@ RestReads rest.Memory wish left bytes = Unit {0}
 
 -- ---- a call
 
--- what a head asks for
-abbrev pub call_of : Asked → EngineState → Call
-call_of asked engine = record {
-  request = request_of asked.login asked.head;
-  conditions = conditions_of asked.head.fields;
-  stamp = stamp_of asked.head engine.state.count asked.moment;
-}
+-- what a head asks for that asks this of objects and directories
+abbrev pub call_of : Asked → Request → EngineState → Call
+call_of asked request engine = record { request = request; conditions = conditions_of asked.head.fields; stamp = stamp_of asked.head engine.state.count asked.moment }
+
+-- a call is what a head asks for
+pub record IsCallOf (asked : Asked) (engine : EngineState) (call : Call) : Type 0 where
+  pub asks : asked_of asked.login asked.head ≡ head.Rows call.request
+  pub is : call ≡ call_of asked call.request engine
 
 -- the call puts an object whose body is stored
 abbrev pub StoresBody : EngineState → Call → Type 0

@@ -5,7 +5,7 @@ ghost use Rattle.mt_api.specs.Steps.{EndsSo, ReadsSo, RestEnds, RestReads, end_o
 ghost use Rattle.mt_http.specs.BodyReading.{body_left};
 ghost use Rattle.mt_request.specs.Digest.{digest_refusal};
 ghost use Rattle.mt_request.specs.declared.digest.Wish.{Wish};
-ghost use Rattle.mt_api.specs.GoingOn.{BodyGoesOn};
+ghost use Rattle.mt_http.specs.Further.{BodyGoesOn};
 
 use md5::{Digest, Md5};
 use mt_body::{Drained, digest_rest};

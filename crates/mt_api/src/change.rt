@@ -3,7 +3,7 @@ ghost use Rattle.std.specs.Prelude.{◌≡◌, ◌≤◌, ℕ, List, false, IfOk
 ghost use Rattle.mt_answer.specs.Answer as words;
 ghost use Rattle.mt_answer.specs.Judging.{len_of, md5_of};
 ghost use Rattle.mt_api.specs.Answered.{Asked, answer_at, used};
-ghost use Rattle.mt_api.specs.Steps.{Adds, IsReady, Settles, call_of};
+ghost use Rattle.mt_api.specs.Steps.{Adds, IsCallOf, IsReady, Settles};
 ghost use Rattle.mt_disk.specs.CrashModel.{LeavesOnly};
 ghost use Rattle.mt_engine.specs.Current.{IsBetween};
 ghost use Rattle.mt_engine.specs.History.{Bytes, History};
@@ -84,7 +84,7 @@ pub(crate) fn add<D: Disk>(
 ) -> Answered
     requires ready { CallInRun D.seen D.may_leave disk.old engine.old run call body }
     requires adds { Adds engine.old call.request.doing }
-    ensures settles { (base : State Bytes) (h : History) (qs : List (List ℕ)) (asked : Asked) (bytes : Bytes) → call ≡ call_of asked engine.old →
+    ensures settles { (base : State Bytes) (h : History) (qs : List (List ℕ)) (asked : Asked) (bytes : Bytes) → IsCallOf asked engine.old call →
         IsReady (D.seen disk.old) engine.old run base h qs call body bytes →
         (k : History) × Settles result (answer_at asked engine.old (replay base h) bytes) (used engine.old) base h (D.seen disk.new) engine.new k
         × LeavesOnly D.moment D.left_since disk.old disk.new (IsBetween base h k) }

@@ -4,7 +4,7 @@ ghost use Rattle.md5.specs.Md5.{md5};
 ghost use Rattle.mt_answer.specs.Judging.{len_of, md5_of};
 ghost use Rattle.mt_answer.specs.Answer as words;
 ghost use Rattle.mt_api.specs.Answered.{Asked, CanBeSent, EndsBody, answer_at, used};
-ghost use Rattle.mt_api.specs.Steps.{Goes, IsPlain, Replies, Settles, call_of, refusal};
+ghost use Rattle.mt_api.specs.Steps.{Goes, IsCallOf, IsPlain, Replies, Settles, refusal};
 ghost use Rattle.mt_disk.specs.CrashModel.{LeavesOnly};
 ghost use Rattle.mt_engine.specs.Current.{IsBetween, IsCurrent};
 ghost use Rattle.mt_engine.specs.History.{Bytes, History};
@@ -12,7 +12,8 @@ ghost use Rattle.mt_http.specs.BodyReading.{body_left};
 ghost use Rattle.mt_model.specs.CommandStep.{replay};
 ghost use Rattle.mt_model.specs.State.{State};
 ghost use Rattle.mt_request.specs.Digest.{digest_refusal};
-ghost use Rattle.mt_api.specs.GoingOn.{BodyGoesOn, CallIsReady, SettlesCall, StepKeeps};
+ghost use Rattle.mt_api.specs.GoingOn.{CallIsReady, SettlesCall, StepKeeps};
+ghost use Rattle.mt_http.specs.Further.{BodyGoesOn};
 
 use crate::answered::Answered;
 use crate::bodies::{Rest, read_rest};
@@ -30,7 +31,7 @@ use mt_types::Body;
 use std::alloc::{AllocError, Global};
 
 /// The body of a command that has none.
-const NO_BODY: Body = Body {
+pub(crate) const NO_BODY: Body = Body {
     first: 0,
     len: 0,
     md5: [0; 16],
@@ -50,7 +51,7 @@ fn look(alloc: Global, engine: &Engine, call: &Call) -> Answered
 // Does what is asked for, which isn't refused.
 fn carry_out<D: Disk>(alloc: Global, engine: &mut Engine, disk: &mut D, call: Call) -> Answered
     requires ready { CallIsReady D.seen D.may_leave disk.old engine.old call }
-    ensures settles { (base : State Bytes) (h : History) (asked : Asked) (bytes : Bytes) → IsCurrent (D.seen disk.old) engine.old base h → IsPlain engine.old call → call ≡ call_of asked engine.old →
+    ensures settles { (base : State Bytes) (h : History) (asked : Asked) (bytes : Bytes) → IsCurrent (D.seen disk.old) engine.old base h → IsPlain engine.old call → IsCallOf asked engine.old call →
         refusal engine.old call (Some (md5 bytes)) ≡ None →
         (k : History) × Settles result (answer_at asked engine.old (replay base h) bytes) (used engine.old) base h (D.seen disk.new) engine.new k
         × LeavesOnly D.moment D.left_since disk.old disk.new (IsBetween base h k) }
@@ -87,7 +88,7 @@ fn judge_unstored<D: Disk>(
     digest: Option<[u8; 16]>,
 ) -> Answered
     requires ready { CallIsReady D.seen D.may_leave disk.old engine.old call }
-    ensures settles { (base : State Bytes) (h : History) (asked : Asked) (bytes : Bytes) → IsCurrent (D.seen disk.old) engine.old base h → IsPlain engine.old call → call ≡ call_of asked engine.old →
+    ensures settles { (base : State Bytes) (h : History) (asked : Asked) (bytes : Bytes) → IsCurrent (D.seen disk.old) engine.old base h → IsPlain engine.old call → IsCallOf asked engine.old call →
         digest_refusal call.request.wish digest ≡ digest_refusal call.request.wish (Some (md5 bytes)) →
         (k : History) × Settles result (answer_at asked engine.old (replay base h) bytes) (used engine.old) base h (D.seen disk.new) engine.new k
         × LeavesOnly D.moment D.left_since disk.old disk.new (IsBetween base h k) }
@@ -108,7 +109,7 @@ pub(crate) fn answer_unstored<D: Disk, S: Source>(
     stream: &mut BodyStream<'_, S>,
 ) -> Answered
     requires ready { CallIsReady D.seen D.may_leave disk.old engine.old call }
-    ensures goes { (base : State Bytes) (h : History) (asked : Asked) → IsCurrent (D.seen disk.old) engine.old base h → IsPlain engine.old call → call ≡ call_of asked engine.old →
+    ensures goes { (base : State Bytes) (h : History) (asked : Asked) → IsCurrent (D.seen disk.old) engine.old base h → IsPlain engine.old call → IsCallOf asked engine.old call →
         (k : History) × Goes result asked engine.old base h (body_left stream.old.framer (S.left stream.old.source.now)) stream.new.framer.stage (D.seen disk.new) engine.new k
         × LeavesOnly D.moment D.left_since disk.old disk.new (IsBetween base h k) }
     ensures over { EndsBody result stream.new.framer.stage }

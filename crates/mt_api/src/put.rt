@@ -2,7 +2,7 @@
 ghost use Rattle.std.specs.Prelude.{◌≡◌, ◌≤◌, ℕ, List, Option, Some};
 ghost use Rattle.md5.specs.Md5.{Holds};
 ghost use Rattle.mt_api.specs.Answered.{Asked, EndsBody, answer_at, used};
-ghost use Rattle.mt_api.specs.Steps.{AreHeld, Goes, HasNoRoom, IsAll, IsWhole, Settles, StoresBody, call_of, refusal, without_room};
+ghost use Rattle.mt_api.specs.Steps.{AreHeld, Goes, HasNoRoom, IsAll, IsCallOf, IsWhole, Settles, StoresBody, refusal, without_room};
 ghost use Rattle.mt_disk.specs.CrashModel.{LeavesOnly};
 ghost use Rattle.mt_edge.specs.Stream.{LeftAfter};
 ghost use Rattle.mt_engine.specs.Current.{IsBetween, IsCurrent};
@@ -10,7 +10,8 @@ ghost use Rattle.mt_engine.specs.History.{Bytes, History};
 ghost use Rattle.mt_http.specs.BodyReading.{body_left};
 ghost use Rattle.mt_model.specs.CommandStep.{replay};
 ghost use Rattle.mt_model.specs.State.{State};
-ghost use Rattle.mt_api.specs.GoingOn.{BodyGoesOn, CallInRun, CallIsReady, SettlesInRun, StepKeeps};
+ghost use Rattle.mt_api.specs.GoingOn.{CallInRun, CallIsReady, SettlesInRun, StepKeeps};
+ghost use Rattle.mt_http.specs.Further.{BodyGoesOn};
 ghost use Rattle.mt_engine.specs.Ready.{RunIsReady};
 
 use crate::answered::Answered;
@@ -52,7 +53,7 @@ fn judge_digest<D: Disk>(
 ) -> Answered
     requires ready { CallInRun D.seen D.may_leave disk.old engine.old run call body }
     requires stores { StoresBody engine.old call }
-    ensures settles { (base : State Bytes) (h : History) (qs : List (List ℕ)) (asked : Asked) (bytes : Bytes) → call ≡ call_of asked engine.old →
+    ensures settles { (base : State Bytes) (h : History) (qs : List (List ℕ)) (asked : Asked) (bytes : Bytes) → IsCallOf asked engine.old call →
         IsWhole (D.seen disk.old) engine.old run base h qs body bytes →
         (k : History) × Settles result (answer_at asked engine.old (replay base h) bytes) (used engine.old) base h (D.seen disk.new) engine.new k
         × LeavesOnly D.moment D.left_since disk.old disk.new (IsBetween base h k) }
@@ -81,7 +82,7 @@ fn finish_body<D: Disk, S: Source>(
 ) -> Answered
     requires ready { CallInRun D.seen D.may_leave disk.old engine.old run call body }
     requires stores { StoresBody engine.old call }
-    ensures goes { (base : State Bytes) (h : History) (qs : List (List ℕ)) (asked : Asked) (left : Option (List ℕ)) (bytes : Bytes) → call ≡ call_of asked engine.old →
+    ensures goes { (base : State Bytes) (h : History) (qs : List (List ℕ)) (asked : Asked) (left : Option (List ℕ)) (bytes : Bytes) → IsCallOf asked engine.old call →
         IsWhole (D.seen disk.old) engine.old run base h qs body bytes → IsAll left bytes →
         (k : History) × Goes result asked engine.old base h left stream.new.framer.stage (D.seen disk.new) engine.new k
         × LeavesOnly D.moment D.left_since disk.old disk.new (IsBetween base h k) }
@@ -111,7 +112,7 @@ fn refuse_for_room<D: Disk, S: Source>(
     requires ready { RunIsReady D.seen D.may_leave disk.old engine.old run }
     requires moment { call.stamp.moment ≤ LAST_MOMENT }
     requires stores { StoresBody engine.old call }
-    ensures goes { (base : State Bytes) (h : History) (qs : List (List ℕ)) (asked : Asked) (left : Option (List ℕ)) (bytes : Bytes) → call ≡ call_of asked engine.old →
+    ensures goes { (base : State Bytes) (h : History) (qs : List (List ℕ)) (asked : Asked) (left : Option (List ℕ)) (bytes : Bytes) → IsCallOf asked engine.old call →
         HasNoRoom (D.seen disk.old) engine.old run base h qs bytes → Holds sum bytes →
         LeftAfter left bytes (body_left stream.old.framer (S.left stream.old.source.now)) →
         (k : History) × Goes result asked engine.old base h left stream.new.framer.stage (D.seen disk.new) engine.new k
@@ -143,7 +144,7 @@ pub(crate) fn put<D: Disk, S: Source>(
 ) -> Answered
     requires ready { CallIsReady D.seen D.may_leave disk.old engine.old call }
     requires stores { StoresBody engine.old call }
-    ensures goes { (base : State Bytes) (h : History) (asked : Asked) → IsCurrent (D.seen disk.old) engine.old base h → call ≡ call_of asked engine.old →
+    ensures goes { (base : State Bytes) (h : History) (asked : Asked) → IsCurrent (D.seen disk.old) engine.old base h → IsCallOf asked engine.old call →
         (k : History) × Goes result asked engine.old base h (body_left stream.old.framer (S.left stream.old.source.now)) stream.new.framer.stage (D.seen disk.new) engine.new k
         × LeavesOnly D.moment D.left_since disk.old disk.new (IsBetween base h k) }
     ensures over { EndsBody result stream.new.framer.stage }

@@ -1,19 +1,25 @@
 //! The answer to a request.
-ghost use Rattle.std.specs.Prelude.{◌≡◌, ◌≢◌, ◌≤◌, false, length, IfOk, IfSome, Option};
+ghost use Rattle.std.specs.Prelude.{◌≡◌, ◌≢◌, ◌≤◌, false, length, IfOk, IfSome, List, Option, ℕ};
+ghost use Rattle.mt_answer.specs.Answer.{stamp_of};
 ghost use Rattle.mt_api.specs.Answered.{Answers, CanBeSent, EndsBody, Hears, said};
-ghost use Rattle.mt_api.specs.Steps.{call_of};
+ghost use Rattle.mt_api.specs.GoingOn.{StepKeeps};
+ghost use Rattle.mt_api.specs.Steps.{Goes, IsCallOf};
 ghost use Rattle.mt_base.specs.Counts.{Rose};
 ghost use Rattle.mt_disk.specs.CrashModel.{LeavesOnly};
 ghost use Rattle.mt_engine.specs.Current.{IsBetween, IsCurrent};
 ghost use Rattle.mt_engine.specs.History.{Bytes, History};
+ghost use Rattle.mt_engine.specs.Ready.{EngineGoesOn, EngineIsReady};
 ghost use Rattle.mt_http.specs.Body.{Told};
+ghost use Rattle.mt_http.specs.BodyReading.{body_left};
+ghost use Rattle.mt_http.specs.Further.{BodyGoesOn};
 ghost use Rattle.mt_model.specs.State.{State};
 ghost use Rattle.mt_request.specs.Laws.{FitsDoing};
-ghost use Rattle.mt_api.specs.GoingOn.{BodyGoesOn};
-ghost use Rattle.mt_engine.specs.Ready.{EngineGoesOn, EngineIsReady};
+ghost use Rattle.mt_request.specs.Requests.{asked_of};
+ghost use Rattle.mt_request.specs.declared.asked.Asked.TheVariants as head_asks;
 
 use crate::answered::Answered;
-use crate::call::Call;
+use crate::call::{Call, JobCall};
+use crate::job::answer_job;
 use crate::perform::answer_unstored;
 use crate::put::put;
 use mt_answer::stores_body;
@@ -24,31 +30,36 @@ use mt_edge::Source;
 use mt_engine::Engine;
 use mt_http::{BodyStream, Head, closes};
 use mt_reply::Stamp;
-use mt_request::laws::asks_within_limits;
-use mt_request::request_of;
+use mt_request::laws::asked_within_limits;
+use mt_request::{Asked, JobRequest, Request, asked_of};
 use std::alloc::{AllocError, Global};
 
-// What a head asks for.
-fn read_call(
-    alloc: Global,
-    login: &str,
-    engine: &Engine,
-    head: &Head,
-    now: u64,
-) -> Result<Call, AllocError>
-    requires { length head.now.fields ≤ 100 }
-    ensures call { (body : Option Told) → IfOk result (λ call. call ≡ call_of (record { login = login.now; head = head.now; body = body; moment = now }) engine.now) }
-    ensures moment { IfOk result (λ call. call.stamp.moment ≡ now) }
-    ensures fits { IfOk result (λ call. FitsDoing call.request.doing) }
+// What every reply to a head says, with the position before it.
+fn stamp_of(engine: &Engine, head: &Head, now: u64) -> Stamp
+    ensures { result ≡ stamp_of head.now engine.now.state.count now }
 {
-    let conditions = Conditions::read(alloc, &head.fields)?;
-    let request = request_of(alloc, login, head)?;
-    asks_within_limits();
-    let stamp = Stamp {
+    Stamp {
         position: engine.position(),
         moment: now,
         closes: closes(head.minor, head.fields.as_slice()),
-    };
+    }
+}
+
+// What a head asks for of objects and directories.
+fn read_call(
+    alloc: Global,
+    engine: &Engine,
+    request: Request,
+    head: &Head,
+    now: u64,
+) -> Result<Call, AllocError>
+    ensures call { (login : List ℕ) (body : Option Told) → asked_of login head.now ≡ head_asks.Rows request →
+        IfOk result (λ call. IsCallOf (record { login = login; head = head.now; body = body; moment = now }) engine.now call) }
+    ensures moment { IfOk result (λ call. call.stamp.moment ≡ now) }
+    ensures request { IfOk result (λ call. call.request ≡ request) }
+{
+    let conditions = Conditions::read(alloc, &head.fields)?;
+    let stamp = stamp_of(engine, head, now);
     Ok(Call {
         request,
         conditions,
@@ -56,9 +67,66 @@ fn read_call(
     })
 }
 
-/// Answers a request at a moment. Its body is read to its end first, and stored where only its digest or the want of room could
-/// still refuse it; the command that it asks for is on the disk before the reply is given out. The reply is to be sent before the
-/// next request is answered.
+// Answers what is asked of objects and directories. Its body is stored where only its digest or the want of room could still refuse it.
+fn answer_rows<D: Disk, S: Source>(
+    alloc: Global,
+    engine: &mut Engine,
+    disk: &mut D,
+    request: Request,
+    head: &Head,
+    body: &mut BodyStream<'_, S>,
+    now: u64,
+) -> Answered
+    requires ready { EngineIsReady D.seen D.may_leave disk.old engine.old }
+    requires moment { now ≤ LAST_MOMENT }
+    requires fits { FitsDoing request.doing }
+    ensures goes { (login : List ℕ) (told : Option Told) (base : State Bytes) (h : History) → IsCurrent (D.seen disk.old) engine.old base h → asked_of login head.now ≡ head_asks.Rows request →
+        (k : History) × Goes result (record { login = login; head = head.now; body = told; moment = now }) engine.old base h (body_left body.old.framer (S.left body.old.source.now)) body.new.framer.stage (D.seen disk.new) engine.new k
+        × LeavesOnly D.moment D.left_since disk.old disk.new (IsBetween base h k) }
+    ensures over { EndsBody result body.new.framer.stage }
+    ensures sends { CanBeSent result (D.seen disk.new) engine.new }
+    ensures keeps { StepKeeps D.seen D.may_leave D.faults disk.old disk.new result engine.old engine.new }
+    ensures body { BodyGoesOn S.left S.read_faults S.source_stays body.old body.new (result ≡ Answered.SourceFault) }
+{
+    let call = match read_call(alloc, engine, request, head, now) {
+        Ok(call) => call,
+        Err(AllocError) => return Answered::Memory,
+    };
+    if stores_body(&call.request, engine.tree(), &call.conditions) {
+        put(alloc, engine, disk, call, body)
+    } else {
+        answer_unstored(alloc, engine, disk, call, body)
+    }
+}
+
+// Answers what is asked of jobs.
+fn answer_jobs<D: Disk, S: Source>(
+    alloc: Global,
+    login: &str,
+    engine: &mut Engine,
+    disk: &mut D,
+    request: JobRequest,
+    head: &Head,
+    body: &mut BodyStream<'_, S>,
+    now: u64,
+) -> Answered
+    requires ready { EngineIsReady D.seen D.may_leave disk.old engine.old }
+    requires moment { now ≤ LAST_MOMENT }
+    ensures goes { (told : Option Told) (base : State Bytes) (h : History) → IsCurrent (D.seen disk.old) engine.old base h → asked_of login.now head.now ≡ head_asks.Jobs request →
+        (k : History) × Goes result (record { login = login.now; head = head.now; body = told; moment = now }) engine.old base h (body_left body.old.framer (S.left body.old.source.now)) body.new.framer.stage (D.seen disk.new) engine.new k
+        × LeavesOnly D.moment D.left_since disk.old disk.new (IsBetween base h k) }
+    ensures over { EndsBody result body.new.framer.stage }
+    ensures sends { CanBeSent result (D.seen disk.new) engine.new }
+    ensures keeps { StepKeeps D.seen D.may_leave D.faults disk.old disk.new result engine.old engine.new }
+    ensures body { BodyGoesOn S.left S.read_faults S.source_stays body.old body.new (result ≡ Answered.SourceFault) }
+{
+    let stamp = stamp_of(engine, head, now);
+    answer_job(alloc, login, engine, disk, JobCall { request, stamp }, body)
+}
+
+/// Answers a request at a moment. Its body is read to its end first: that of an object is stored where only its digest or the want of room
+/// could still refuse it, a document or lines for a job are held, and any other is dropped. The command that it asks for is on the
+/// disk before the reply is given out. The reply is to be sent before the next request is answered.
 pub fn answer<D: Disk, S: Source>(
     alloc: Global,
     login: &str,
@@ -85,13 +153,17 @@ pub fn answer<D: Disk, S: Source>(
     ensures goes_on { EngineGoesOn D.seen D.may_leave D.faults disk.old disk.new engine.old engine.new }
     ensures body { BodyGoesOn S.left S.read_faults S.source_stays body.old body.new (result ≡ Answered.SourceFault) }
 {
-    let call = match read_call(alloc, login, engine, head, now) {
-        Ok(call) => call,
+    asked_within_limits();
+    let asked = match asked_of(alloc, login, head) {
+        Ok(asked) => asked,
         Err(AllocError) => return Answered::Memory,
     };
-    if stores_body(&call.request, engine.tree(), &call.conditions) {
-        put(alloc, engine, disk, call, body)
-    } else {
-        answer_unstored(alloc, engine, disk, call, body)
+    match asked {
+        Asked::Rows(request) => {
+            return answer_rows(alloc, engine, disk, request, head, body, now);
+        }
+        Asked::Jobs(request) => {
+            return answer_jobs(alloc, login, engine, disk, request, head, body, now);
+        }
     }
 }

@@ -14,7 +14,6 @@ line status name words = record { status = status; name = name; words = words }
 
 -- the table
 abbrev pub line_of_error : ErrorCode → ErrorLine
-line_of_error error.NotBuilt = line 400 (codes "NotBuilt") (codes "this is not built yet")
 line_of_error error.BadRequest = line 400 (codes "BadRequest") (codes "the request is not well formed")
 line_of_error error.ResourceNotFound = line 404 (codes "ResourceNotFound") (codes "no such resource")
 line_of_error error.DirectoryDoesNotExist = line 404 (codes "DirectoryDoesNotExist") (codes "the parent directory does not exist")

@@ -11,8 +11,6 @@ const BODY_ROOM: usize = 96;
 /// Why a request is refused. The code in the body of its reply is the name of the variant.
 #[derive(Clone, Copy, Debug, PartialEq, Eq)]
 pub enum ErrorCode {
-    /// 400: what it asks for comes in a later release.
-    NotBuilt,
     /// 400: no message stands there, or its target, content type, metadata or query is not well formed.
     BadRequest,
     /// 404: nothing is at the path, or the target is none of this server.
@@ -83,8 +81,7 @@ impl ErrorCode {
         ensures { result ≡ status_of_error self }
     {
         match self {
-            ErrorCode::NotBuilt
-            | ErrorCode::BadRequest
+            ErrorCode::BadRequest
             | ErrorCode::ParentNotDirectory
             | ErrorCode::DirectoryNotEmpty
             | ErrorCode::DirectoryOperation
@@ -119,7 +116,6 @@ impl ErrorCode {
         ensures { result.now ≡ name_of_error self }
     {
         match self {
-            ErrorCode::NotBuilt => "NotBuilt",
             ErrorCode::BadRequest => "BadRequest",
             ErrorCode::ResourceNotFound => "ResourceNotFound",
             ErrorCode::DirectoryDoesNotExist => "DirectoryDoesNotExist",
@@ -159,7 +155,6 @@ impl ErrorCode {
         ensures { result.now ≡ words_of_error self }
     {
         match self {
-            ErrorCode::NotBuilt => "this is not built yet",
             ErrorCode::BadRequest => "the request is not well formed",
             ErrorCode::ResourceNotFound => "no such resource",
             ErrorCode::DirectoryDoesNotExist => "the parent directory does not exist",

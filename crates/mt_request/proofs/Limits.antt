@@ -24,7 +24,7 @@ use Rattle.mt_request.specs.Metadata.{is_metadata_field, is_metadata_fine, is_no
 use Rattle.mt_request.specs.Order.{first_of, refuse_if}
 use Rattle.mt_request.specs.Puts.{doing_by, kind_in, late_by, link_doing, link_to, object_doing, object_late, unless}
 use Rattle.mt_request.specs.Query.{query_of, stand_in}
-use Rattle.mt_request.specs.Requests.{asked_at, asked_by, asked_late, asked_of, is_post, late_at, listed, look_at, of_rows, request_of, wanted_at}
+use Rattle.mt_request.specs.Requests.{asked_at, asked_by, asked_late, asked_of, is_post, late_at, listed, look_at, wanted_at}
 use Rattle.mt_request.specs.Routes.{route_of}
 use Rattle.mt_request.specs.Target.{early_at, path_read}
 use Rattle.mt_request.specs.declared.asked.Asked.{Asked}
@@ -241,11 +241,3 @@ at_fits (Err code) login head within = tt
 pub asked_within : (login : List ℕ) (head : Head) → length head.fields ≤ 100 → FitsAsked (asked_of login head)
 unfolding asked_of
 asked_within login head within = at_fits (path_read login head.target) login head within
-
-of_rows_fits : (a : Asked) → FitsAsked a → FitsDoing (of_rows a).doing
-of_rows_fits (asked.Rows request) fits = fits
-of_rows_fits (asked.Jobs request) fits = tt
-
-pub within_limits : (login : List ℕ) (head : Head) → length head.fields ≤ 100 → FitsDoing (request_of login head).doing
-unfolding request_of
-within_limits login head within = of_rows_fits (asked_of login head) (asked_within login head within)

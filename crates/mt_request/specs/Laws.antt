@@ -4,7 +4,7 @@ use Rattle.mt_http.specs.declared.message.Head.{Head}
 use Rattle.mt_ident.specs.Digests.{IsDigest, digest_text}
 use Rattle.mt_types.specs.Limits.{FitsMetadata, is_content_type, is_durability}
 use Rattle.mt_request.specs.Digest.{digest_read}
-use Rattle.mt_request.specs.Requests.{asked_of, asked_refusal, refusal_of_head, request_of}
+use Rattle.mt_request.specs.Requests.{asked_of, asked_refusal, refusal_of_head}
 use Rattle.mt_request.specs.declared.asked.Asked.{Asked}
 use Rattle.mt_request.specs.declared.asked.Asked.TheVariants as asked
 use Rattle.mt_request.specs.declared.request.Doing.{Doing}
@@ -28,14 +28,10 @@ FitsDoing (doing.PutLink path source) = ⊤
 FitsDoing (doing.Remove path) = ⊤
 FitsDoing (doing.Look path page range) = ⊤
 
--- what a head with at most 100 fields asks for
-abbrev pub AsksWithinLimits : Type 0
-AsksWithinLimits = (login : List ℕ) (head : Head) → length head.fields ≤ 100 → FitsDoing (request_of login head).doing
-
 abbrev pub FitsAsked : Asked → Type 0
 FitsAsked (asked.Rows request) = FitsDoing request.doing
 FitsAsked (asked.Jobs request) = ⊤
 
--- the same of objects and directories or of jobs
+-- what a head with at most 100 fields asks for
 abbrev pub AskedWithinLimits : Type 0
 AskedWithinLimits = (login : List ℕ) (head : Head) → length head.fields ≤ 100 → FitsAsked (asked_of login head)

@@ -137,15 +137,6 @@ asked_at (Err code) login head = asked.Rows (refused_early (wish_of head.fields)
 unfoldable pub asked_of : List ℕ → Head → Asked
 asked_of login head = asked_at (path_read login head.target) login head
 
--- of objects and directories alone: what is asked of jobs isn't built yet
-abbrev pub of_rows : Asked → Request
-of_rows (asked.Rows request) = request
-of_rows (asked.Jobs request) = refused_early request.wish (plain error.NotBuilt)
-
--- what a head asks for of objects and directories
-unfoldable pub request_of : List ℕ → Head → Request
-request_of login head = of_rows (asked_of login head)
-
 -- ---- the first refusal
 
 -- of a request, whose body has this digest

@@ -1,7 +1,7 @@
 //! What a head asks for, of objects and directories or of jobs.
 ghost use Rattle.std.specs.Prelude.{◌≡◌, ℕ, IfOk, List, Ok, Some};
 ghost use Rattle.mt_path.specs.AccountPath.{AccountPath};
-ghost use Rattle.mt_request.specs.Requests.{asked_by, asked_late, asked_of, is_post, late_at, listed, look_at, range_of_head, refused_early, request_of, rows_of, wanted_at};
+ghost use Rattle.mt_request.specs.Requests.{asked_by, asked_late, asked_of, is_post, late_at, listed, look_at, range_of_head, refused_early, rows_of, wanted_at};
 ghost use Rattle.mt_request.specs.Puts.{unless};
 ghost use Rattle.mt_request.specs.Requests as words;
 ghost use Rattle.mt_request.specs.declared.route.Route.TheVariants as Route;
@@ -260,20 +260,6 @@ pub fn asked_of(alloc: Global, login: &str, head: &Head) -> Result<Asked, AllocE
         Err(code) => {
             let wish = wish_of(head.fields.as_slice());
             Ok(Asked::Rows(refused_early(wish, Refused::plain(code))))
-        }
-    }
-}
-
-/// What a head asks for of objects and directories. What is asked of jobs isn't built yet.
-#[tactic(auto, unfolding(crate::specs::Requests::request_of))]
-pub fn request_of(alloc: Global, login: &str, head: &Head) -> Result<Request, AllocError>
-    ensures { IfOk result (λ request. request ≡ request_of login.now head.now) }
-{
-    match asked_of(alloc, login, head)? {
-        Asked::Rows(request) => Ok(request),
-        Asked::Jobs(request) => {
-            let refused = Refused::plain(ErrorCode::NotBuilt);
-            Ok(refused_early(request.wish, refused))
         }
     }
 }

@@ -1,5 +1,5 @@
 //! Laws: the order of all refusals, which text is a digest's, and that what is asked is within the limits of values.
-ghost use Rattle.mt_request.specs.Laws.{AskedWithinLimits, AsksWithinLimits, ReadsDigests, RefusesInOrder};
+ghost use Rattle.mt_request.specs.Laws.{AskedWithinLimits, ReadsDigests, RefusesInOrder};
 
 /// The first refusal of what a head asks for is the first of the head, in the one order of `refusal_of_head`.
 pub fn refusals_in_order()
@@ -12,11 +12,6 @@ pub fn digests_are_read()
 {}
 
 /// What a head with at most 100 fields asks for is within the limits of a put: content type, level, metadata.
-pub fn asks_within_limits()
-    ensures { AsksWithinLimits }
-{}
-
-/// The same of what is asked of objects and directories, beside what is asked of jobs.
 pub fn asked_within_limits()
     ensures { AskedWithinLimits }
 {}

@@ -18,7 +18,7 @@ mod request;
 mod route;
 mod target;
 
-pub use asked::{Asked, JobRequest, asked_of, request_of};
+pub use asked::{Asked, JobRequest, asked_of};
 pub use digest::Wish;
 pub use jobs::JobDoing;
 pub use query::Page;

@@ -2,8 +2,7 @@
 use mt_error::ErrorCode;
 
 /// All errors.
-const ALL: [ErrorCode; 32] = [
-    ErrorCode::NotBuilt,
+const ALL: [ErrorCode; 31] = [
     ErrorCode::BadRequest,
     ErrorCode::ResourceNotFound,
     ErrorCode::DirectoryDoesNotExist,

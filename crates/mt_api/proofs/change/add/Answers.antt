@@ -1,4 +1,5 @@
 use Rattle.std.proofs.Common.{◌++◌, ◌∷◌, [], ℕ, ◌+◌, refl, sym, ap, ◌∙◌, subst, true≢false}
+use Rattle.mt_account.specs.Taken.{IsTaken}
 use Rattle.mt_answer.specs.Answer.{command_of, reply_to}
 use Rattle.mt_answer.specs.Judging.{len_of, md5_of}
 use Rattle.mt_body.specs.Stored.{bytes_of}
@@ -17,6 +18,9 @@ use Rattle.mt_api.specs.declared.answered.Answered.TheVariants as answered
 use Rattle.mt_api.proofs.Adds.{brings_stored, gives_added, held_reply, leaves_added, reached_none, reaches_added, settles_full}
 use Rattle.mt_api.proofs.Ends.{ended_keeps, held_ended, held_replied, leaves_at, leaves_same, memory_not_disk, memory_settles, not_disk, replied_not_disk, settled_ended, settled_replied}
 use Rattle.mt_api.proofs.change.add.Goals as goal
+
+pub accept-requires-clause-kind : goal.accept-requires-clause-kind
+accept-requires-clause-kind g c = subst IsTaken (sym c.in-Some.ensures.kind) tt
 
 -- want of memory for the reply
 pub returns-in-Err-clause-settles : goal.returns-in-Err-clause-settles

@@ -8,11 +8,11 @@ use Rattle.mt_log.specs.LogImage.{payloads_of}
 use Rattle.mt_log.specs.LogState.{Stands}
 use Rattle.mt_log.specs.RunState.{RunState}
 use Rattle.mt_api.specs.Answered.{used}
-use Rattle.mt_api.specs.Steps.{Goes, HasNoRoom, IsWhole, StoresBody, call_of}
+use Rattle.mt_api.specs.Steps.{Goes, HasNoRoom, IsWhole, StoresBody}
 use Rattle.mt_api.specs.declared.answered.Answered.TheVariants as answered
 use Rattle.mt_api.proofs.Ends.{behind_keeps, disk_not_source, ended_keeps, held_ended, leaves_same, leaves_then, memory_not_disk, memory_not_source}
 use Rattle.mt_api.proofs.Lefts.{all_ended, front_of, read_further}
-use Rattle.mt_api.proofs.Puts.{ended_goes, goes_on, none_taken, nothing_fits, part_next, stays_left}
+use Rattle.mt_api.proofs.Puts.{call_there, ended_goes, goes_on, none_taken, nothing_fits, part_next, stays_left}
 use Rattle.mt_api.proofs.put.put.Goals as goal
 
 pub returns-then-used-limit-clause-goes : goal.returns-then-used-limit-clause-goes
@@ -51,7 +51,7 @@ returns-in-Stored-clause-goes g c base h asked i e =
       next = omega (arith, s.next, fresh, ap used same);
       fits = s.fits (omega (arith, fresh, under, ap (λ (x : EngineState). x.log.limit) same));
     } in
-    let r = c.finish_body.ensures.goes base h (payloads_of i.is_read.files ++ s.pieces) asked left s.bytes (e ∙ ap (call_of asked) (sym same)) whole (all_ended left left' s.bytes s.took s.ended) in
+    let r = c.finish_body.ensures.goes base h (payloads_of i.is_read.files ++ s.pieces) asked left s.bytes (call_there asked engine c.store_body.new.self c.args.call (sym same) e) whole (all_ended left left' s.bytes s.took s.ended) in
     let goes = subst (λ (x : EngineState). Goes c.finish_body.result asked x base h left c.finish_body.new.stream.framer.stage (d.seen c.finish_body.new.disk) c.finish_body.new.engine r.0) same r.1 in (
       r.0,
       goes,
@@ -74,7 +74,7 @@ returns-in-Full-clause-goes g c base h asked i e =
       next = part_next c.store_body.new.self.log.limit (used c.store_body.new.self) run.next c.store_body.new.run.next (length p.0.bytes) p.0.next fresh;
       full = omega (arith, p.1, fresh);
     } in
-    let r = c.refuse_for_room-in-Full.ensures.goes base h (payloads_of i.is_read.files ++ p.0.pieces) asked left p.0.bytes (e ∙ ap (call_of asked) (sym same)) none p.0.digested p.0.took in
+    let r = c.refuse_for_room-in-Full.ensures.goes base h (payloads_of i.is_read.files ++ p.0.pieces) asked left p.0.bytes (call_there asked engine c.store_body.new.self c.args.call (sym same) e) none p.0.digested p.0.took in
     let goes = subst (λ (x : EngineState). Goes c.refuse_for_room-in-Full.result asked x base h left c.refuse_for_room-in-Full.new.stream.framer.stage (d.seen c.refuse_for_room-in-Full.new.disk) c.refuse_for_room-in-Full.new.engine r.0) same r.1 in (
       r.0,
       goes,

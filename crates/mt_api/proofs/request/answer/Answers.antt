@@ -1,11 +1,9 @@
-use Rattle.std.proofs.Common.{refl, sym, ap, ◌∙◌, arith}
-use Rattle.mt_answer.specs.Judging.{len_of, stores_body}
+use Rattle.std.proofs.Common.{refl, sym, subst, ◌∙◌, arith}
 use Rattle.mt_http.specs.BodyReading.{body_left}
-use Rattle.mt_model.specs.Rows.{Rows}
-use Rattle.mt_types.specs.declared.body.Body.{Body}
+use Rattle.mt_request.specs.Laws.{FitsAsked}
 use Rattle.mt_api.specs.Answered.{Asked, said}
 use Rattle.mt_api.specs.declared.answered.Answered.TheVariants as answered
-use Rattle.mt_api.proofs.Ends.{held_sends, idle_keeps, memory_not_disk, memory_not_source}
+use Rattle.mt_api.proofs.Ends.{idle_keeps, memory_not_disk, memory_not_source}
 use Rattle.mt_api.proofs.Plain.{idle}
 use Rattle.mt_api.proofs.Tops.{goes_answers, hears_all, serves_on}
 use Rattle.mt_api.proofs.request.answer.Goals as goal
@@ -20,67 +18,58 @@ returns-in-Err-clause-answers g c base h i =
     let d = g.D.Disk in
     (h, (refl, λ is_open. i), idle d.seen d.may_leave d.moment d.left_since c.args.disk.now c.args.engine.now base h c.requires.ready.stands i (g.met.D.Disk.only_now c.args.disk.now))
 
-pub put-requires-clause-stores : goal.put-requires-clause-stores
-put-requires-clause-stores g c =
-    ap (λ (rows : Rows Body). stores_body len_of c.in-Ok.call.request rows c.in-Ok.call.conditions) (sym c.tree.ensures.rows) ∙ sym c.stores_body.ensures ∙ c.if-stores_body.true
+pub answer_rows-requires-clause-fits : goal.answer_rows-requires-clause-fits
+answer_rows-requires-clause-fits g c =
+    subst FitsAsked (sym c.in-Ok.ensures ∙ c.in-Rows.is) (c.asked_within_limits.ensures c.args.login.now c.args.head.now c.requires.few)
 
-pub returns-then-stores_body-clause-hears : goal.returns-then-stores_body-clause-hears
-returns-then-stores_body-clause-hears g c =
+pub returns-in-Rows-clause-hears : goal.returns-in-Rows-clause-hears
+returns-in-Rows-clause-hears g c =
     let s = g.S.Source in
-    hears_all c.put.result c.args.body.now.framer c.put.new.stream.framer (s.left c.args.body.now.source.now) (s.left c.put.new.stream.source.now) c.put.ensures.body.after c.put.ensures.over
+    hears_all c.answer_rows.result c.args.body.now.framer c.answer_rows.new.body.framer (s.left c.args.body.now.source.now) (s.left c.answer_rows.new.body.source.now) c.answer_rows.ensures.body.after c.answer_rows.ensures.over
 
-pub returns-then-stores_body-clause-answers : goal.returns-then-stores_body-clause-answers
-returns-then-stores_body-clause-answers g c base h i =
+pub returns-in-Rows-clause-answers : goal.returns-in-Rows-clause-answers
+returns-in-Rows-clause-answers g c base h i =
     let d = g.D.Disk in
     let s = g.S.Source in
     let asked : Asked = record { login = c.args.login.now; head = c.args.head.now; body = said c.args.body.now.framer (s.left c.args.body.now.source.now); moment = c.args.now } in
-    let r = c.put.ensures.goes base h asked i (c.in-Ok.ensures.call asked.body) in
-    (r.0, goes_answers c.put.result asked c.args.engine.now base h c.args.body.now.framer c.put.new.stream.framer (s.left c.args.body.now.source.now) (s.left c.put.new.stream.source.now) (d.seen c.put.new.disk) c.put.new.engine r.0 refl c.put.ensures.body.after r.1, r.2)
+    let r = c.answer_rows.ensures.goes c.args.login.now asked.body base h i (sym c.in-Ok.ensures ∙ c.in-Rows.is) in
+    (r.0, goes_answers c.answer_rows.result asked c.args.engine.now base h c.args.body.now.framer c.answer_rows.new.body.framer (s.left c.args.body.now.source.now) (s.left c.answer_rows.new.body.source.now) (d.seen c.answer_rows.new.disk) c.answer_rows.new.engine r.0 refl c.answer_rows.ensures.body.after r.1, r.2)
 
-pub returns-then-stores_body-clause-sends : goal.returns-then-stores_body-clause-sends
-returns-then-stores_body-clause-sends g c = held_sends c.put.result (g.D.Disk.seen c.put.new.disk) c.put.new.engine c.put.ensures.held
-
-pub returns-then-stores_body-clause-goes_on : goal.returns-then-stores_body-clause-goes_on
-returns-then-stores_body-clause-goes_on g c =
+pub returns-in-Rows-clause-goes_on : goal.returns-in-Rows-clause-goes_on
+returns-in-Rows-clause-goes_on g c =
     let d = g.D.Disk in
     let s = g.S.Source in
     let asked : Asked = record { login = c.args.login.now; head = c.args.head.now; body = said c.args.body.now.framer (s.left c.args.body.now.source.now); moment = c.args.now } in
     record {
-      stays = c.put.ensures.keeps.stays;
-      stands = c.put.ensures.keeps.stands;
-      serves = serves_on c.put.result asked (d.seen c.args.disk.now) (d.seen c.put.new.disk) c.args.engine.now c.put.new.engine (body_left c.args.body.now.framer (s.left c.args.body.now.source.now)) c.put.new.stream.framer.stage
-          c.requires.ready.serves c.requires.ready.is_open c.put.ensures.keeps.stays.told (λ base h i. let r = c.put.ensures.goes base h asked i (c.in-Ok.ensures.call asked.body) in (r.0, r.1));
+      stays = c.answer_rows.ensures.keeps.stays;
+      stands = c.answer_rows.ensures.keeps.stands;
+      serves = serves_on c.answer_rows.result asked (d.seen c.args.disk.now) (d.seen c.answer_rows.new.disk) c.args.engine.now c.answer_rows.new.engine (body_left c.args.body.now.framer (s.left c.args.body.now.source.now)) c.answer_rows.new.body.framer.stage
+          c.requires.ready.serves c.requires.ready.is_open c.answer_rows.ensures.keeps.stays.told (λ base h i. let r = c.answer_rows.ensures.goes c.args.login.now asked.body base h i (sym c.in-Ok.ensures ∙ c.in-Rows.is) in (r.0, r.1));
     }
 
-pub returns-else-stores_body-clause-hears : goal.returns-else-stores_body-clause-hears
-returns-else-stores_body-clause-hears g c =
+pub returns-in-Jobs-clause-hears : goal.returns-in-Jobs-clause-hears
+returns-in-Jobs-clause-hears g c =
     let s = g.S.Source in
-    hears_all c.answer_unstored.result c.args.body.now.framer c.answer_unstored.new.stream.framer (s.left c.args.body.now.source.now) (s.left c.answer_unstored.new.stream.source.now) c.answer_unstored.ensures.body.after c.answer_unstored.ensures.over
+    hears_all c.answer_jobs.result c.args.body.now.framer c.answer_jobs.new.body.framer (s.left c.args.body.now.source.now) (s.left c.answer_jobs.new.body.source.now) c.answer_jobs.ensures.body.after c.answer_jobs.ensures.over
 
-pub returns-else-stores_body-clause-answers : goal.returns-else-stores_body-clause-answers
-returns-else-stores_body-clause-answers g c base h i =
+pub returns-in-Jobs-clause-answers : goal.returns-in-Jobs-clause-answers
+returns-in-Jobs-clause-answers g c base h i =
     let d = g.D.Disk in
     let s = g.S.Source in
     let asked : Asked = record { login = c.args.login.now; head = c.args.head.now; body = said c.args.body.now.framer (s.left c.args.body.now.source.now); moment = c.args.now } in
-    let plain = ap (λ (rows : Rows Body). stores_body len_of c.in-Ok.call.request rows c.in-Ok.call.conditions) (sym c.tree.ensures.rows) ∙ sym c.stores_body.ensures ∙ c.if-stores_body.false in
-    let r = c.answer_unstored.ensures.goes base h asked i plain (c.in-Ok.ensures.call asked.body) in (
-      r.0,
-      goes_answers c.answer_unstored.result asked c.args.engine.now base h c.args.body.now.framer c.answer_unstored.new.stream.framer (s.left c.args.body.now.source.now) (s.left c.answer_unstored.new.stream.source.now) (d.seen c.answer_unstored.new.disk) c.answer_unstored.new.engine r.0 refl
-          c.answer_unstored.ensures.body.after r.1,
-      r.2,
-    )
+    let r = c.answer_jobs.ensures.goes asked.body base h i (sym c.in-Ok.ensures ∙ c.in-Jobs.is) in
+    (r.0, goes_answers c.answer_jobs.result asked c.args.engine.now base h c.args.body.now.framer c.answer_jobs.new.body.framer (s.left c.args.body.now.source.now) (s.left c.answer_jobs.new.body.source.now) (d.seen c.answer_jobs.new.disk) c.answer_jobs.new.engine r.0 refl c.answer_jobs.ensures.body.after r.1, r.2)
 
-pub returns-else-stores_body-clause-goes_on : goal.returns-else-stores_body-clause-goes_on
-returns-else-stores_body-clause-goes_on g c =
+pub returns-in-Jobs-clause-goes_on : goal.returns-in-Jobs-clause-goes_on
+returns-in-Jobs-clause-goes_on g c =
     let d = g.D.Disk in
     let s = g.S.Source in
     let asked : Asked = record { login = c.args.login.now; head = c.args.head.now; body = said c.args.body.now.framer (s.left c.args.body.now.source.now); moment = c.args.now } in
-    let plain = ap (λ (rows : Rows Body). stores_body len_of c.in-Ok.call.request rows c.in-Ok.call.conditions) (sym c.tree.ensures.rows) ∙ sym c.stores_body.ensures ∙ c.if-stores_body.false in
     record {
-      stays = c.answer_unstored.ensures.keeps.stays;
-      stands = c.answer_unstored.ensures.keeps.stands;
-      serves = serves_on c.answer_unstored.result asked (d.seen c.args.disk.now) (d.seen c.answer_unstored.new.disk) c.args.engine.now c.answer_unstored.new.engine (body_left c.args.body.now.framer (s.left c.args.body.now.source.now)) c.answer_unstored.new.stream.framer.stage
-          c.requires.ready.serves c.requires.ready.is_open c.answer_unstored.ensures.keeps.stays.told (λ base h i. let r = c.answer_unstored.ensures.goes base h asked i plain (c.in-Ok.ensures.call asked.body) in (r.0, r.1));
+      stays = c.answer_jobs.ensures.keeps.stays;
+      stands = c.answer_jobs.ensures.keeps.stands;
+      serves = serves_on c.answer_jobs.result asked (d.seen c.args.disk.now) (d.seen c.answer_jobs.new.disk) c.args.engine.now c.answer_jobs.new.engine (body_left c.args.body.now.framer (s.left c.args.body.now.source.now)) c.answer_jobs.new.body.framer.stage
+          c.requires.ready.serves c.requires.ready.is_open c.answer_jobs.ensures.keeps.stays.told (λ base h i. let r = c.answer_jobs.ensures.goes asked.body base h i (sym c.in-Ok.ensures ∙ c.in-Jobs.is) in (r.0, r.1));
     }
 
 pub returns-in-Err-clause-goes_on : goal.returns-in-Err-clause-goes_on

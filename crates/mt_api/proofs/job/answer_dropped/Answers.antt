@@ -1,0 +1,86 @@
+use Rattle.std.proofs.Common.{◌≡◌, refl}
+use Rattle.mt_http.specs.BodyReading.{body_left}
+use Rattle.mt_api.specs.declared.answered.Answered.TheVariants as answered
+use Rattle.mt_api.specs.declared.bodies.Rest.TheVariants as rest
+use Rattle.mt_api.proofs.Ends.{idle_keeps, memory_not_disk, memory_not_source, settled_not, settled_over}
+use Rattle.mt_api.proofs.Lefts.{read_as, read_well}
+use Rattle.mt_api.proofs.Jobs.{asks_nothing, job_left}
+use Rattle.mt_api.proofs.Plain.{idle}
+use Rattle.mt_api.proofs.Puts.{settles_goes, stops_goes}
+use Rattle.mt_api.proofs.job.answer_dropped.Goals as goal
+
+pub returns-in-Whole-clause-goes : goal.returns-in-Whole-clause-goes
+returns-in-Whole-clause-goes g c base h asked i e =
+    let d = g.D.Disk in
+    let tells = c.in-Whole.ensures.tells in
+    let s = c.judge_job.ensures.settles base h asked tells.0 i e (asks_nothing c.args.login.now c.args.call.request tells.0 c.requires.dropped) tells.1.1 in
+    (s.0, settles_goes c.judge_job.result asked c.args.engine.now base h (body_left c.args.stream.now.framer (g.S.Source.left c.args.stream.now.source.now)) c.read_rest.new.body.framer.stage (d.seen c.judge_job.new.disk) c.judge_job.new.engine s.0 tells.0 tells.1.0 c.in-Whole.ensures.over s.1, s.2)
+
+pub returns-in-Unfinished-clause-goes : goal.returns-in-Unfinished-clause-goes
+returns-in-Unfinished-clause-goes g c base h asked i e =
+    let d = g.D.Disk in
+    let tells = c.in-Unfinished.ensures.tells in (
+      h,
+      stops_goes asked c.args.engine.now base h (body_left c.args.stream.now.framer (g.S.Source.left c.args.stream.now.source.now)) c.read_rest.new.body.framer.stage (d.seen c.args.disk.now) tells.0 (answered.Unfinished c.in-Unfinished.ending) c.args.engine.now tells.1 i
+          (job_left c.args.login.now asked c.args.engine.now c.args.call e base h tells.0),
+      idle d.seen d.may_leave d.moment d.left_since c.args.disk.now c.args.engine.now base h c.requires.ready.over.stands i (g.met.D.Disk.only_now c.args.disk.now),
+    )
+
+pub returns-in-SourceFault-clause-goes : goal.returns-in-SourceFault-clause-goes
+returns-in-SourceFault-clause-goes g c base h asked i e =
+    let d = g.D.Disk in
+    let tells = c.in-SourceFault.ensures.tells in (
+      h,
+      stops_goes asked c.args.engine.now base h (body_left c.args.stream.now.framer (g.S.Source.left c.args.stream.now.source.now)) c.read_rest.new.body.framer.stage (d.seen c.args.disk.now) tells.0 answered.SourceFault c.args.engine.now tells.1 i
+          (job_left c.args.login.now asked c.args.engine.now c.args.call e base h tells.0),
+      idle d.seen d.may_leave d.moment d.left_since c.args.disk.now c.args.engine.now base h c.requires.ready.over.stands i (g.met.D.Disk.only_now c.args.disk.now),
+    )
+
+pub returns-in-Memory-clause-goes : goal.returns-in-Memory-clause-goes
+returns-in-Memory-clause-goes g c base h asked i e =
+    let d = g.D.Disk in
+    (h, (refl, λ is_open. i), idle d.seen d.may_leave d.moment d.left_since c.args.disk.now c.args.engine.now base h c.requires.ready.over.stands i (g.met.D.Disk.only_now c.args.disk.now))
+
+pub returns-in-Whole-clause-over : goal.returns-in-Whole-clause-over
+returns-in-Whole-clause-over g c = settled_over c.judge_job.result c.read_rest.new.body.framer.stage c.judge_job.ensures.settled.is_settled c.in-Whole.ensures.over
+
+pub returns-in-Whole-clause-sends : goal.returns-in-Whole-clause-sends
+returns-in-Whole-clause-sends g c = c.judge_job.ensures.settled.sends
+
+pub returns-in-Whole-clause-keeps : goal.returns-in-Whole-clause-keeps
+returns-in-Whole-clause-keeps g c = c.judge_job.ensures.settled.keeps
+
+pub returns-in-Whole-clause-body : goal.returns-in-Whole-clause-body
+returns-in-Whole-clause-body g c =
+    let s = g.S.Source in
+    read_well s.left s.read_faults s.source_stays c.args.stream.now c.read_rest.new.body _ (c.judge_job.result ≡ answered.SourceFault) (settled_not c.judge_job.result c.judge_job.ensures.settled.is_settled) c.read_rest.ensures.body
+
+pub returns-in-Unfinished-clause-keeps : goal.returns-in-Unfinished-clause-keeps
+returns-in-Unfinished-clause-keeps g c =
+    let d = g.D.Disk in
+    idle_keeps d.seen d.may_leave d.faults c.args.disk.now (answered.Unfinished c.in-Unfinished.ending) c.args.engine.now c.requires.ready.over.is_open c.requires.ready.over.stands (λ x. cc)
+
+pub returns-in-SourceFault-clause-keeps : goal.returns-in-SourceFault-clause-keeps
+returns-in-SourceFault-clause-keeps g c =
+    let d = g.D.Disk in
+    idle_keeps d.seen d.may_leave d.faults c.args.disk.now answered.SourceFault c.args.engine.now c.requires.ready.over.is_open c.requires.ready.over.stands (λ x. cc)
+
+pub returns-in-Memory-clause-keeps : goal.returns-in-Memory-clause-keeps
+returns-in-Memory-clause-keeps g c =
+    let d = g.D.Disk in
+    idle_keeps d.seen d.may_leave d.faults c.args.disk.now answered.Memory c.args.engine.now c.requires.ready.over.is_open c.requires.ready.over.stands memory_not_disk
+
+pub returns-in-Unfinished-clause-body : goal.returns-in-Unfinished-clause-body
+returns-in-Unfinished-clause-body g c =
+    let s = g.S.Source in
+    read_well s.left s.read_faults s.source_stays c.args.stream.now c.read_rest.new.body _ ((answered.Unfinished c.in-Unfinished.ending) ≡ answered.SourceFault) (λ x. cc) c.read_rest.ensures.body
+
+pub returns-in-Memory-clause-body : goal.returns-in-Memory-clause-body
+returns-in-Memory-clause-body g c =
+    let s = g.S.Source in
+    read_well s.left s.read_faults s.source_stays c.args.stream.now c.read_rest.new.body _ (answered.Memory ≡ answered.SourceFault) memory_not_source c.read_rest.ensures.body
+
+pub returns-in-SourceFault-clause-body : goal.returns-in-SourceFault-clause-body
+returns-in-SourceFault-clause-body g c =
+    let s = g.S.Source in
+    read_as s.left s.read_faults s.source_stays c.args.stream.now c.read_rest.new.body (c.read_rest.result ≡ rest.SourceFault) _ (λ x. c.in-SourceFault.is) c.read_rest.ensures.body
