@@ -70,11 +70,11 @@ def delete(name):
     return message(f"DELETE /l/stor/{name} HTTP/1.1")
 
 
-def refusal(code, position):
+def refusal(code, position, moment=0):
     """The reply behind which no message is read. It has its body, whatever the method."""
     status, words = ERRORS[code]
     data = json.dumps({"code": code, "message": words}, separators=(",", ":")).encode()
-    fields = ["connection: close", f"content-length: {len(data)}", "content-type: application/json", f"date: {http_date(0)}", f"x-marlin-position: {position}"]
+    fields = ["connection: close", f"content-length: {len(data)}", "content-type: application/json", f"date: {http_date(moment)}", f"x-marlin-position: {position}"]
     return "".join(line + "\r\n" for line in [f"HTTP/1.1 {status} {PHRASES[status]}", *fields, ""]).encode() + data
 
 
@@ -152,6 +152,21 @@ class Table:
         self.given(*messages)
         self.run(words, 0, self.replies(*messages))
 
+    def asked_at(self, *pairs):
+        """What is answered to messages, each at its own moment."""
+        said = b""
+        for moment, one in pairs:
+            self.store.moment = moment
+            said += self.store.ask(one)
+        self.store.moment = 0
+        return said
+
+    def timed(self, *pairs):
+        """A session whose clock gives a moment for each message."""
+        self.given(*(one for _, one in pairs))
+        print("moments " + " ".join(str(moment) for moment, _ in pairs))
+        self.run(SESSION, 0, self.asked_at(*pairs))
+
     def refused(self, bad, code, *before):
         """Requests that are answered, and then bytes that are no message."""
         self.given(*before, bad)
@@ -169,21 +184,22 @@ class Table:
     def holds(self, head, one, two=b""):
         print(f"store {word(head)} {word(one)} {word(two)}")
 
-    def stops(self, counts, told=0, opening=OPENING):
-        """A session of commands that take so many calls each: the last but one opens the gate, the last syncs."""
-        print(f"stops {SESSION}".ljust(48).rstrip())
-        call = 0
+    def stops(self, counts, told=0, opening=OPENING, words=SESSION):
+        """A run of commands that take so many calls each: the last but one opens the gate, the last syncs. One of "reads" adds none."""
+        print(f"stops {words}".ljust(48).rstrip())
+        call, said = 0, "none"
         for _ in range(opening):
             print(f"    call {call}: status 5, told none, left" + f" {told}" * 5)
             call += 1
-        for place, count in enumerate(counts):
-            before, after = told + place, told + place + 1
-            said = before if place else "none"
-            for k in range(count):
+        for count in counts:
+            reads = count == "reads"
+            for k in range(1 if reads else count):
                 # Of a gate that was not synced a crash leaves the byte 1 where it leaves ones or the whole.
-                left = [before, before, after, before, after] if k >= count - 2 else [before] * 5
+                left = [told, told, told + 1, told, told + 1] if not reads and k >= count - 2 else [told] * 5
                 print(f"    call {call}: status 5, told {said}, left " + " ".join(map(str, left)))
                 call += 1
+            told += 0 if reads else 1
+            said = told
 
 
 def objects(t):
@@ -303,6 +319,12 @@ def stores(t):
         t.session(get("a"))
         head, one, two = after or (head, one, two)
         t.files(one, head, two)
+    t.note("A log with a job of one phase opens.")
+    t.store = Store()
+    t.store.accept(JOB_COMMAND)
+    t.holds(b"\x01", log(JOB_COMMAND))
+    t.session(put("a"), get("a"))
+    t.files(log(JOB_COMMAND, b"\0hello", put_command(b"a", b"text/plain", 8 + 21 + len(JOB_COMMAND), 5)))
     t.note("Stores that are refused are left as they are: no log, a second log of another kind, an old log, and payloads that are no command.")
     bad = [
         (b"MTLOG002", "not a log"), (b"MTLOG001\0", "old log, run compact"), (log(b"\xff"), "foreign at 8"), (log(b""), "foreign at 8"),
@@ -312,12 +334,11 @@ def stores(t):
         (log(put_command(b"a", b"", 0, 0, moment=253_402_300_800)), "foreign at 8"),
         (log(b"\0hello", put_command(b"a", b"", 8, 6)), "foreign at 35"),
         (log(b"\0hello", put_command(b"..", b"", 8, 5)), "foreign at 35"),
-        # A delete of nothing, a directory for the second time, one in the area of jobs, a byte too many, a job, and an end of its input.
+        # A delete of nothing, a directory for the second time, one in the area of jobs, a byte too many, and an end of the input of a job that isn't there.
         (log(delete_command(b"a")), "foreign at 8"),
         (log(directory_command(b"a"), directory_command(b"a")), f"foreign at {8 + 21 + len(directory_command(b'a'))}"),
         (log(directory_command(b"a", area=2)), "foreign at 8"),
         (log(directory_command(b"a") + b"\0"), "foreign at 8"),
-        (log(JOB_COMMAND), "foreign at 8"),
         (log(struct.pack(">BQQ", 7, 0, 0)), "foreign at 8"),
     ]
     broken = hello.replace(b"hello", b"hellp")
@@ -365,6 +386,12 @@ def crashes(t):
     t.session(put("a"), delete("a"))
     t.given(message("PUT /l/stor/d HTTP/1.1\nContent-Type: application/json; type=directory"), put("d/x"))
     t.stops([6, 8], told=2, opening=REOPENING)
+    t.note("The same of three links at a door, each with one message, of which the second reads: what each reply told of stands before the next link is taken.")
+    t.new()
+    for one in (put("a"), get("a"), delete("a")):
+        t.given(one)
+        print("link")
+    t.stops([8, "reads", 6], words=f"{SERVE} 3")
     t.note("The source fails; the sink fails, and the put is in the log.")
     t.new()
     t.given(put("a"), get("a"))
@@ -375,6 +402,49 @@ def crashes(t):
     t.run(SESSION, 4)
     t.store.ask(put("a"))
     t.session(get("a"))
+
+
+def clocks(t):
+    t.note("A clock of many moments: each message has that of its own call. Dates of replies, of objects and of pages go by it, and so do 304 and 412.")
+    t.new()
+    since = "If-Modified-Since: "
+    unless = "If-Unmodified-Since: "
+    t.timed(
+        (86_400, put("a")),
+        (86_401, get("a")),
+        (90_000, put("b", b"2")),
+        (100_000, put("a", b"bye")),
+        (100_001, get("a", since + http_date(86_400))),
+        (100_002, get("a", since + http_date(99_999))),
+        (100_003, get("a", since + http_date(100_000))),
+        (100_004, get("b", unless + http_date(89_999))),
+        (100_005, get("b", unless + http_date(90_000))),
+        (100_006, get("")),
+        (100_007, put("b", b"3", unless + http_date(89_999))),
+        (100_008, put("b", b"4", unless + http_date(90_000))),
+        (100_009, message("HEAD /l/stor/b HTTP/1.1")),
+        (99_999, made(DIRECTORY, "/d")),
+        (200_000, delete("a")),
+        (200_001, get("a")),
+        (200_002, get("")),
+    )
+    t.note("What is refused has the moment of its call; and behind the last of a list a clock gives that one.")
+    t.given(get("none"), b"GE(T\r\n\r\n")
+    print("moments 300000 300001")
+    t.run(SESSION, 12, t.asked_at((300_000, get("none"))) + refusal("BadRequest", t.store.count, 300_001))
+    t.given(get("none"), get("none"), get("none"))
+    print("moments 300002 300003")
+    t.run(SESSION, 0, t.asked_at((300_002, get("none")), (300_003, get("none")), (300_003, get("none"))))
+    t.note("The links of a door share one clock.")
+    t.given(put("c"), get("c", since + http_date(400_000)))
+    print("link")
+    t.given(get("c", since + http_date(400_000)), put("c", b"c"), get("c", since + http_date(400_000)))
+    print("link")
+    print("moments 400000 400001 400002 400003 400004")
+    t.run(f"{SERVE} 2", 0, links=[
+        t.asked_at((400_000, put("c")), (400_001, get("c", since + http_date(400_000)))),
+        t.asked_at((400_002, get("c", since + http_date(400_000))), (400_003, put("c", b"c")), (400_004, get("c", since + http_date(400_000)))),
+    ])
 
 
 def ends(t):
@@ -538,7 +608,7 @@ def turns(t):
 
 
 def main():
-    for part in (objects, routes, words, stores, limits, crashes, ends, serves, turns):
+    for part in (objects, routes, words, stores, limits, crashes, clocks, ends, serves, turns):
         part(TABLE)
 
 

@@ -3,9 +3,11 @@ use Rattle.std.proofs.Common.{◌≡◌, ℕ, ◌+◌, ◌≤◌, [], ◌++◌, 
 use Rattle.std.specs.Prelude.{IfSome, is_some}
 use Rattle.std.proofs.lemmas.Option.{IfSome_then}
 use Rattle.md5.specs.Md5.{md5}
-use Rattle.mt_answer.specs.Answer.{Answer, accept, add_if, answer_by, answer_in, answer_of, command_of, has_room, stamp_of}
+use Rattle.mt_answer.specs.Answer.{Answer}
+use Rattle.mt_answer.specs.Whole.{answer_of}
+use Rattle.mt_answer.proofs.Whole.{one_command}
 use Rattle.mt_answer.specs.Judging.{refusal_of}
-use Rattle.mt_api.specs.Answered.{Answers, Asked, Hears, MayStand, Shows, said}
+use Rattle.mt_api.specs.Answered.{Answers, Hears, MayStand, Shows, said}
 use Rattle.mt_api.specs.declared.answered.Answered.{Answered}
 use Rattle.mt_api.specs.declared.answered.Answered.TheVariants as answered
 use Rattle.mt_base.specs.Lists.{IsPrefixOf}
@@ -14,7 +16,7 @@ use Rattle.mt_cond.specs.Conditions.{conditions_of}
 use Rattle.mt_cond.specs.declared.conditions.Conditions.{Conditions}
 use Rattle.mt_disk.specs.Files.{Files}
 use Rattle.mt_edge.specs.Stream.{LeftAfter, GotMore}
-use Rattle.mt_engine.specs.Current.{EngineState, IsCurrent}
+use Rattle.mt_engine.specs.Current.{EngineState, IsCurrent, Over, told_size}
 use Rattle.mt_engine.specs.History.{Bytes, History}
 use Rattle.mt_error.specs.declared.refused.Refused.{Refused}
 use Rattle.mt_http.specs.Body.{BodyState, Told, first_state, told_from}
@@ -28,7 +30,6 @@ use Rattle.mt_log.specs.LogImage.{payloads_of}
 use Rattle.mt_model.specs.CommandStep.{replay}
 use Rattle.mt_model.specs.State.{State}
 use Rattle.mt_reply.specs.declared.stamp.Stamp.{Stamp}
-use Rattle.mt_request.specs.Requests.{request_of}
 use Rattle.mt_request.specs.declared.request.Doing.{Doing}
 use Rattle.mt_request.specs.declared.request.Request.{Request}
 use Rattle.mt_types.specs.Values.{reply_body_with, reply_with}
@@ -37,13 +38,14 @@ use Rattle.mt_types.specs.declared.command.Command.{Command}
 use Rattle.mt_types.specs.declared.reply.Reply.{Reply}
 use Rattle.mt_types.specs.declared.reply.ReplyBody.{ReplyBody}
 use Rattle.mt_types.specs.declared.reply.ReplyBody.TheVariants.{Held, Part}
+use Rattle.mt_connection.specs.Account.{AccountSide}
 use Rattle.mt_connection.specs.Endings.{AllCameAt, CameAt, Cut, GrewBy, Unanswered}
-use Rattle.mt_connection.specs.Sides.{LinkSide, sides}
+use Rattle.mt_connection.specs.Sides.{LinkSide, Sides, joined}
 use Rattle.mt_connection.specs.Steps.{CanBeRead, IsBodyOf, text_to}
-use Rattle.mt_connection.specs.Transcript.{Over, is_head, setting}
+use Rattle.mt_connection.specs.Transcript.{Setting, is_head, setting}
 use Rattle.mt_connection.proofs.Reading.{all_some, head_at, message_read, of_mapped, unanswered}
 use Rattle.mt_connection.proofs.Crashes.{all_of}
-use Rattle.mt_connection.proofs.Steps.{Replying}
+use Rattle.mt_connection.proofs.Steps.{Replying, nothing_told}
 
 pub over_none : (engine : EngineState) (base : State Bytes) (h : History) → Over None engine base h
 over_none engine base h = λ files is. let no : None ≡ Some files = is in absurd (cc)
@@ -69,59 +71,6 @@ shown_text : (files : Files) (reply : Reply Body) (shown : Reply Bytes) (bytes :
 shown_text files reply shown bytes head shows is =
     sym (ap (λ (r : Reply Bytes). reply_text r (is_head head)) shows) ∙ ap (λ (b : Bytes). text_with reply.status reply.fields reply.closes b (is_head head)) (shown_bytes files reply.body bytes is)
 
--- it was answered
-pub replied : (gives : ℕ → Type 0) (login : Bytes) (base : State Bytes) (h : History) (before at : LinkSide) (head : Head) (used : Bytes) → LeftAfter before.left used at.left → SpellsHead used head
-    → (engine engine' : EngineState) (moment : ℕ) (new : LinkSide) (d d' : ℕ) (M : State Bytes → History → History → Type 0) (seen seen' : Option Files) (reply : Reply Body) → gives moment → is_some seen' ≡ is_some seen
-    → IfSome (said (first_state head.framing (limit_of head)) at.left) (λ t. (t.ending ≡ ending.Whole) × (new.left ≡ Some t.rest)) → (at.left ≡ None → new.left ≡ None)
-    → ((base : State Bytes) (h : History) → IsCurrent seen engine base h → (k : History)
-    × Answers (answered.Replied reply) (record { login = login; head = head; body = said (first_state head.framing (limit_of head)) at.left; moment = moment }) engine base h new.left seen' engine' k × M base h k)
-    → Over seen engine base h → (body : Bytes) → IsBodyOf seen' reply.body body
-    → (k : History) × Replying (setting (is_some before.left) (is_some seen) gives login engine.log.limit base) (sides before h seen d engine) (sides new k seen' d' engine') head (text_to reply body head)
-    × Over seen' engine' base k × (is_some seen ≡ true → M base h k)
-replied gives login base h before at head used gone spelled engine engine' moment new d d' M None None reply given told whole none answers over body is =
-    let m = message_read before.left at.left new.left head used gone spelled whole none in
-    let bytes : Bytes = body_said (said (first_state head.framing (limit_of head)) at.left) in (
-      h,
-      record {
-        read = m.0;
-        body = bytes;
-        moment = moment;
-        answer = record { reply = record { status = reply.status; fields = reply.fields; body = Held body; closes = reply.closes }; added = []; grew = 0 };
-        is_read = m.2 bytes (said_so (said (first_state head.framing (limit_of head)) at.left));
-        source = m.1;
-        given = given;
-        answered = (refl, refl);
-        is_text = refl;
-        history = sym (append-nil h);
-        used = omega arith;
-      },
-      over_none engine' base h,
-      (λ knows. absurd (true_is_false (sym knows))),
-    )
-replied gives login base h before at head used gone spelled engine engine' moment new d d' M None (Some files') reply given told whole none answers over body is = absurd (true_is_false told)
-replied gives login base h before at head used gone spelled engine engine' moment new d d' M (Some files) None reply given told whole none answers over body is = absurd (true_is_false (sym told))
-replied gives login base h before at head used gone spelled engine engine' moment new d d' M (Some files) (Some files') reply given told whole none answers over body is =
-    let m = message_read before.left at.left new.left head used gone spelled whole none in
-    let a = answers base h (over files refl) in
-    let g = a.1.2 in (
-      a.0,
-      record {
-        read = m.0;
-        body = a.1.0;
-        moment = moment;
-        answer = answer_of login engine.log.limit (replay base h) (engine.log.gate + 1) head a.1.0 moment;
-        is_read = m.2 a.1.0 a.1.1;
-        source = m.1;
-        given = given;
-        answered = refl;
-        is_text = shown_text files' reply _ body head (g.shows (payloads_of files') refl) is;
-        history = g.history;
-        used = g.grew;
-      },
-      (λ other is. g.current),
-      (λ knows. a.2),
-    )
-
 -- all that came of a body
 all_came : (before at : Option Bytes) (head : Head) (used came : Bytes) → LeftAfter before used at → SpellsHead used head → IfSome (said (first_state head.framing (limit_of head)) at) (λ t. t.body ≡ came) → AllCameAt before head came
 all_came before at head used came gone spelled is = head_at before at head used gone spelled (λ rest. (body_of head rest).body ≡ came) (of_mapped (told_from (first_state head.framing (limit_of head))) at (λ t. t.body ≡ came) is)
@@ -129,51 +78,6 @@ all_came before at head used came gone spelled is = head_at before at head used 
 -- a part of it
 some_came : (before at : Option Bytes) (head : Head) (used came : Bytes) → LeftAfter before used at → SpellsHead used head → IfSome (said (first_state head.framing (limit_of head)) at) (λ t. IsPrefixOf came t.body) → CameAt before head came
 some_came before at head used came gone spelled is = head_at before at head used gone spelled (λ rest. IsPrefixOf came (body_of head rest).body) (of_mapped (told_from (first_state head.framing (limit_of head))) at (λ t. IsPrefixOf came t.body) is)
-
--- it ended otherwise than with its last byte
-pub unfinished : (gives : ℕ → Type 0) (login : Bytes) (base : State Bytes) (h : History) (before at : LinkSide) (head : Head) (used : Bytes) → LeftAfter before.left used at.left → SpellsHead used head
-    → (engine engine' : EngineState) (moment : ℕ) (new : LinkSide) (d d' : ℕ) (M : State Bytes → History → History → Type 0) (seen seen' : Option Files) (e : Ending) → is_some seen' ≡ is_some seen
-    → ((base : State Bytes) (h : History) → IsCurrent seen engine base h → (k : History)
-    × Answers (answered.Unfinished e) (record { login = login; head = head; body = said (first_state head.framing (limit_of head)) at.left; moment = moment }) engine base h new.left seen' engine' k × M base h k)
-    → Over seen engine base h
-    → GrewBy (setting (is_some before.left) (is_some seen) gives login engine.log.limit base) AllCameAt (sides before h seen d engine) (sides new h seen' d' engine') × Over seen' engine' base h × (is_some seen ≡ true → M base h h)
-unfinished gives login base h before at head used gone spelled engine engine' moment new d d' M None None e told answers over =
-    let bytes : Bytes = body_said (said (first_state head.framing (limit_of head)) at.left) in (
-      (head, bytes, all_came before.left at.left head used bytes gone spelled (said_so (said (first_state head.framing (limit_of head)) at.left)), λ knows. absurd (true_is_false (sym knows))),
-      over_none engine' base h,
-      (λ knows. absurd (true_is_false (sym knows))),
-    )
-unfinished gives login base h before at head used gone spelled engine engine' moment new d d' M None (Some files') e told answers over = absurd (true_is_false told)
-unfinished gives login base h before at head used gone spelled engine engine' moment new d d' M (Some files) None e told answers over = absurd (true_is_false (sym told))
-unfinished gives login base h before at head used gone spelled engine engine' moment new d d' M (Some files) (Some files') e told answers over =
-    let a = answers base h (over files refl) in
-    let left = a.1.1 in (
-      (head, left.0, all_came before.left at.left head used left.0 gone spelled left.1, λ knows. left.2.grew),
-      (λ other is. left.2.current),
-      (λ knows. subst (λ (k : History). M base h k) a.1.0 a.2),
-    )
-
--- the source failed
-pub unread : (gives : ℕ → Type 0) (login : Bytes) (base : State Bytes) (h : History) (before at : LinkSide) (head : Head) (used : Bytes) → LeftAfter before.left used at.left → SpellsHead used head
-    → (engine engine' : EngineState) (moment : ℕ) (new : LinkSide) (d d' : ℕ) (M : State Bytes → History → History → Type 0) (seen seen' : Option Files) → is_some seen' ≡ is_some seen
-    → ((base : State Bytes) (h : History) → IsCurrent seen engine base h → (k : History)
-    × Answers answered.SourceFault (record { login = login; head = head; body = said (first_state head.framing (limit_of head)) at.left; moment = moment }) engine base h new.left seen' engine' k × M base h k)
-    → Over seen engine base h
-    → GrewBy (setting (is_some before.left) (is_some seen) gives login engine.log.limit base) CameAt (sides before h seen d engine) (sides new h seen' d' engine') × Over seen' engine' base h × (is_some seen ≡ true → M base h h)
-unread gives login base h before at head used gone spelled engine engine' moment new d d' M None None told answers over = (
-  (head, [], some_came before.left at.left head used [] gone spelled (all_some (said (first_state head.framing (limit_of head)) at.left) (λ t. (t.body, refl))), λ knows. absurd (true_is_false (sym knows))),
-  over_none engine' base h,
-  (λ knows. absurd (true_is_false (sym knows))),
-)
-unread gives login base h before at head used gone spelled engine engine' moment new d d' M None (Some files') told answers over = absurd (true_is_false told)
-unread gives login base h before at head used gone spelled engine engine' moment new d d' M (Some files) None told answers over = absurd (true_is_false (sym told))
-unread gives login base h before at head used gone spelled engine engine' moment new d d' M (Some files) (Some files') told answers over =
-    let a = answers base h (over files refl) in
-    let left = a.1.1 in (
-      (head, left.0, some_came before.left at.left head used left.0 gone spelled left.1, λ knows. left.2.grew),
-      (λ other is. left.2.current),
-      (λ knows. subst (λ (k : History). M base h k) a.1.0 a.2),
-    )
 
 -- the place of a message whose body ends so
 pub has_body : (before at : Option Bytes) (head : Head) (used : Bytes) (e : Ending) → LeftAfter before used at → SpellsHead used head → IfSome (said (first_state head.framing (limit_of head)) at) (λ t. t.ending ≡ e) → IfSome before (λ bytes. HasBody bytes e)
@@ -195,24 +99,6 @@ large_body bytes b = b
 
 -- ---- a request has one command at most
 
-module _ (limit : ℕ) (stamp : Stamp) (s : State Bytes) (c : Conditions) (used : ℕ) where
-  one_added : (b : Bool) (command : Command Bytes) (len : ℕ) (reply : Reply Bytes) (full : Answer Bytes) → length full.added ≤ 1 → length (add_if b command len reply full).added ≤ 1
-  one_added true command len reply full few = omega arith
-  one_added false command len reply full few = few
-
-  one_accepted : (d : Doing) (sum : Bytes) (len : ℕ) (o : Option (Command Bytes)) → length (accept length md5 limit stamp s c used d sum len o).added ≤ 1
-  one_accepted d sum len None = omega arith
-  one_accepted d sum len (Some command) = one_added (has_room limit s.count used len command) command len _ _ (omega arith)
-
-  one_by : (request : Request) (body sum : Bytes) (o : Option Refused) → length (answer_by length md5 limit stamp s c used request body sum o).added ≤ 1
-  one_by request body sum (Some r) = omega arith
-  one_by request body sum None = one_accepted request.doing sum _ (command_of s.rows request.doing body stamp.moment)
-
-one_command : (login : Bytes) (limit : ℕ) (s : State Bytes) (used : ℕ) (head : Head) (body : Bytes) (moment : ℕ) → length (answer_of login limit s used head body moment).added ≤ 1
-unfolding answer_of answer_in
-one_command login limit s used head body moment =
-    one_by limit (stamp_of head s.count moment) s (conditions_of head.fields) used (request_of login head) body (md5 body) (refusal_of length (request_of login head) s.rows (conditions_of head.fields) (Some (md5 body)))
-
 one_more : (h k added : History) → k ≡ h ++ added → length added ≤ 1 → length k ≤ length h + 1
 one_more h k added is few = let same : length k ≡ length (h ++ added) = ap length is in let all = length-append h added in omega (arith, same, all, few)
 
@@ -221,74 +107,182 @@ untold : (seen : Option Files) (engine : EngineState) (base : State Bytes) (h : 
 untold None engine base h none = over_none engine base h
 untold (Some files) engine base h none = absurd (true_is_false none)
 
--- the disk failed: nothing stands, or the command of the message
-pub disk_failed : (gives : ℕ → Type 0) (login : Bytes) (base : State Bytes) (h : History) (before at : LinkSide) (head : Head) (used : Bytes) → LeftAfter before.left used at.left → SpellsHead used head
-    → (engine engine' : EngineState) (moment : ℕ) (new : LinkSide) (d d' : ℕ) (M : State Bytes → History → History → Type 0) (seen seen' : Option Files) → gives moment → (at.left ≡ None → new.left ≡ None) → (engine'.log.closed ≡ false → is_some seen' ≡ is_some seen)
-    → GotMore before.got (interim head) new.got
-    → ((base : State Bytes) (h : History) → IsCurrent seen engine base h → (k : History)
-    × Answers answered.Disk (record { login = login; head = head; body = said (first_state head.framing (limit_of head)) at.left; moment = moment }) engine base h new.left seen' engine' k × M base h k)
-    → Over seen engine base h
-    → (k : History) × (Cut (setting (is_some before.left) (is_some seen) gives login engine.log.limit base) (sides before h seen d engine) (sides new k seen' d' engine') h ⊎ Unanswered (sides before h seen d engine) (sides new k seen' d' engine') h)
-    × IsPrefixOf h k × (length k ≤ length h + 1) × (is_some seen ≡ true → M base h k) × (engine'.log.closed ≡ false → Over seen' engine' base k)
-disk_failed gives login base h before at head used gone spelled engine engine' moment new d d' M None seen' given none told sink answers over = (
-  h,
-  inr (unanswered before.left at.left head used gone spelled (sides before h None d engine) (sides new h seen' d' engine') refl sink refl).0,
-  all_of h,
-  omega arith,
-  (λ knows. absurd (true_is_false (sym knows))),
-  (λ is_open. untold seen' engine' base h (told is_open)),
-)
-disk_failed gives login base h before at head used gone spelled engine engine' moment new d d' M (Some files) seen' given none told sink answers over =
-    let a = answers base h (over files refl) in
-    by_stand a.0 a.1.1 a.2
-  where
-    by_stand : (k : History) → (k ≡ h) ⊎ MayStand (record { login = login; head = head; body = said (first_state head.framing (limit_of head)) at.left; moment = moment }) engine base h new.left k → M base h k
-        → (k : History) × (Cut (setting (is_some before.left) true gives login engine.log.limit base) (sides before h (Some files) d engine) (sides new k seen' d' engine') h ⊎ Unanswered (sides before h (Some files) d engine) (sides new k seen' d' engine') h)
-        × IsPrefixOf h k × (length k ≤ length h + 1) × (true ≡ true → M base h k) × (engine'.log.closed ≡ false → Over seen' engine' base k)
-    by_stand k (inl same) m = (
-      h,
-      inr (unanswered before.left at.left head used gone spelled (sides before h (Some files) d engine) (sides new h seen' d' engine') refl sink refl).0,
-      all_of h,
-      omega arith,
-      (λ knows. subst (λ (x : History). M base h x) same m),
-      (λ is_open. absurd (true_is_false (sym (answers base h (over files refl)).1.0 ∙ is_open))),
-    )
-    by_stand k (inr stood) m =
-        let o : Option Told = said (first_state head.framing (limit_of head)) at.left in
-        let read = message_read before.left at.left new.left head used gone spelled (IfSome_then o stood.whole (λ t w. (w.1, w.2))) none in (
-          k,
-          inl (record {
-            read = read.0;
-            head = head;
-            body = stood.bytes;
-            moment = moment;
-            answer = answer_of login engine.log.limit (replay base h) (engine.log.gate + 1) head stood.bytes moment;
-            written = [];
-            is_read = read.2 stood.bytes (IfSome_then o stood.whole (λ t w. w.0));
-            source = read.1;
-            given = given;
-            answered = refl;
-            front = (_, refl);
-            sink = subst (λ (bytes : Bytes). GotMore before.got bytes new.got) (sym (append-nil (interim head))) sink;
-            history = stood.history;
-            told = refl;
-          }),
-          (_, sym stood.history),
-          one_more h k _ stood.history (one_command login engine.log.limit (replay base h) (engine.log.gate + 1) head stood.bytes moment),
-          (λ knows. m),
-          (λ is_open. absurd (true_is_false (sym (answers base h (over files refl)).1.0 ∙ is_open))),
-        )
+-- what is promised of a request whose body stands so before its source, over each history
+abbrev pub AnswersAt : Answered → BodyState → Bytes → Head → ℕ → (left left' : Option Bytes) (seen seen' : Option Files) (engine engine' : EngineState) → (State Bytes → History → History → Type 0) → Type 0
+AnswersAt result framer login head moment left left' seen seen' engine engine' M =
+    (base : State Bytes) (h : History) → IsCurrent seen engine base h → (k : History) × Answers result (record { login = login; head = head; body = said framer left; moment = moment }) engine base h left' seen' engine' k × M base h k
 
--- memory was wanting: nothing was added
-pub no_memory : (base : State Bytes) (h : History) (asked : Asked) (engine engine' : EngineState) (left' : Option Bytes) (M : State Bytes → History → History → Type 0) (seen seen' : Option Files)
-    → (engine'.log.closed ≡ false → is_some seen' ≡ is_some seen)
-    → ((base : State Bytes) (h : History) → IsCurrent seen engine base h → (k : History) × Answers answered.Memory asked engine base h left' seen' engine' k × M base h k)
-    → Over seen engine base h → (engine'.log.closed ≡ false → Over seen' engine' base h) × (is_some seen ≡ true → M base h h)
-no_memory base h asked engine engine' left' M None None told answers over = ((λ is_open. over_none engine' base h), (λ knows. absurd (true_is_false (sym knows))))
-no_memory base h asked engine engine' left' M None (Some files') told answers over = ((λ is_open. absurd (true_is_false (told is_open))), (λ knows. absurd (true_is_false (sym knows))))
-no_memory base h asked engine engine' left' M (Some files) seen' told answers over =
-    let a = answers base h (over files refl) in
-    ((λ is_open other is. a.1.1 is_open), (λ knows. subst (λ (k : History). M base h k) a.1.0 a.2))
+-- over a disk that tells there is a history that it led to
+pub led_to : (result : Answered) (framer : BodyState) (login : Bytes) (head : Head) (moment : ℕ) (left left' : Option Bytes) (seen seen' : Option Files) (engine engine' : EngineState) (M : State Bytes → History → History → Type 0)
+    → AnswersAt result framer login head moment left left' seen seen' engine engine' M → (base : State Bytes) (h : History) → Over seen engine base h → is_some seen ≡ true → (k : History) × M base h k
+led_to result framer login head moment left left' None seen' engine engine' M answers base h over knows = absurd (true_is_false (sym knows))
+led_to result framer login head moment left left' (Some files) seen' engine engine' M answers base h over knows = let a = answers base h (over files refl) in (a.0, a.2)
+
+-- an account over this history, with the log of this engine
+abbrev pub standing : AccountSide → History → Option Files → EngineState → AccountSide
+standing x h seen engine = record x { history = h; used = told_size seen engine }
+
+module _ (moments : ℕ → ℕ → Type 0) (login : Bytes) (base : State Bytes) (h : History) (before at : LinkSide) (head : Head) (read : (used : Bytes) × LeftAfter before.left used at.left × SpellsHead used head)
+    (engine engine' : EngineState) (moment : ℕ) (new : LinkSide) (x x' : AccountSide) (M : State Bytes → History → History → Type 0) where
+  abbrev here_in : Option Files → Setting
+  here_in seen = setting (is_some before.left) (is_some seen) moments login engine.log.limit base
+
+  abbrev old_in : Option Files → Sides
+  old_in seen = joined before (standing x h seen engine)
+
+  abbrev new_in : History → Option Files → Sides
+  new_in k seen' = joined new (standing x' k seen' engine')
+
+  abbrev Gives : Answered → (seen seen' : Option Files) → Type 0
+  Gives result seen seen' = AnswersAt result (first_state head.framing (limit_of head)) login head moment at.left new.left seen seen' engine engine' M
+
+  -- it was answered
+  pub replied : (seen seen' : Option Files) (reply : Reply Body) → moments x.asked moment → is_some seen' ≡ is_some seen
+      → IfSome (said (first_state head.framing (limit_of head)) at.left) (λ t. (t.ending ≡ ending.Whole) × (new.left ≡ Some t.rest)) → (at.left ≡ None → new.left ≡ None)
+      → Gives (answered.Replied reply) seen seen' → Over seen engine base h → (body : Bytes) → IsBodyOf seen' reply.body body
+      → (k : History) × Replying (here_in seen) (old_in seen) (new_in k seen') head (text_to reply body head) × Over seen' engine' base k × (is_some seen ≡ true → M base h k)
+  replied None None reply given told whole none answers over body is =
+      let m = message_read before.left at.left new.left head read.0 read.1 read.2 whole none in
+      let bytes : Bytes = body_said (said (first_state head.framing (limit_of head)) at.left) in (
+        h,
+        record {
+          read = m.0;
+          body = bytes;
+          moment = moment;
+          answer = record { reply = record { status = reply.status; fields = reply.fields; body = Held body; closes = reply.closes }; added = []; grew = 0 };
+          is_read = m.2 bytes (said_so (said (first_state head.framing (limit_of head)) at.left));
+          source = m.1;
+          given = given;
+          answered = (refl, refl);
+          is_text = refl;
+          history = sym (append-nil h);
+          used = omega arith;
+        },
+        over_none engine' base h,
+        (λ knows. absurd (true_is_false (sym knows))),
+      )
+  replied None (Some files') reply given told whole none answers over body is = absurd (true_is_false told)
+  replied (Some files) None reply given told whole none answers over body is = absurd (true_is_false (sym told))
+  replied (Some files) (Some files') reply given told whole none answers over body is =
+      let m = message_read before.left at.left new.left head read.0 read.1 read.2 whole none in
+      let a = answers base h (over files refl) in
+      let g = a.1.2 in (
+        a.0,
+        record {
+          read = m.0;
+          body = a.1.0;
+          moment = moment;
+          answer = answer_of login engine.log.limit (replay base h) (engine.log.gate + 1) head a.1.0 moment;
+          is_read = m.2 a.1.0 a.1.1;
+          source = m.1;
+          given = given;
+          answered = refl;
+          is_text = shown_text files' reply _ body head (g.shows (payloads_of files') refl) is;
+          history = g.history;
+          used = g.grew;
+        },
+        (λ other is. g.current),
+        (λ knows. a.2),
+      )
+
+  -- it ended otherwise than with its last byte
+  pub unfinished : (seen seen' : Option Files) (e : Ending) → is_some seen' ≡ is_some seen → Gives (answered.Unfinished e) seen seen' → Over seen engine base h
+      → GrewBy (here_in seen) AllCameAt (old_in seen) (new_in h seen') × Over seen' engine' base h × (is_some seen ≡ true → M base h h)
+  unfinished None None e told answers over =
+      let bytes : Bytes = body_said (said (first_state head.framing (limit_of head)) at.left) in (
+        (head, bytes, all_came before.left at.left head read.0 bytes read.1 read.2 (said_so (said (first_state head.framing (limit_of head)) at.left)), λ knows. absurd (true_is_false (sym knows))),
+        over_none engine' base h,
+        (λ knows. absurd (true_is_false (sym knows))),
+      )
+  unfinished None (Some files') e told answers over = absurd (true_is_false told)
+  unfinished (Some files) None e told answers over = absurd (true_is_false (sym told))
+  unfinished (Some files) (Some files') e told answers over =
+      let a = answers base h (over files refl) in
+      let left = a.1.1 in (
+        (head, left.0, all_came before.left at.left head read.0 left.0 read.1 read.2 left.1, λ knows. left.2.grew),
+        (λ other is. left.2.current),
+        (λ knows. subst (λ (k : History). M base h k) a.1.0 a.2),
+      )
+
+  -- the source failed
+  pub unread : (seen seen' : Option Files) → is_some seen' ≡ is_some seen → Gives answered.SourceFault seen seen' → Over seen engine base h
+      → GrewBy (here_in seen) CameAt (old_in seen) (new_in h seen') × Over seen' engine' base h × (is_some seen ≡ true → M base h h)
+  unread None None told answers over = (
+    (head, [], some_came before.left at.left head read.0 [] read.1 read.2 (all_some (said (first_state head.framing (limit_of head)) at.left) (λ t. (t.body, refl))), λ knows. absurd (true_is_false (sym knows))),
+    over_none engine' base h,
+    (λ knows. absurd (true_is_false (sym knows))),
+  )
+  unread None (Some files') told answers over = absurd (true_is_false told)
+  unread (Some files) None told answers over = absurd (true_is_false (sym told))
+  unread (Some files) (Some files') told answers over =
+      let a = answers base h (over files refl) in
+      let left = a.1.1 in (
+        (head, left.0, some_came before.left at.left head read.0 left.0 read.1 read.2 left.1, λ knows. left.2.grew),
+        (λ other is. left.2.current),
+        (λ knows. subst (λ (k : History). M base h k) a.1.0 a.2),
+      )
+
+  -- the disk failed: nothing stands, or the command of the message
+  pub disk_failed : (since : ℕ → Files → Type 0) (seen seen' : Option Files) → moments x.asked moment → (at.left ≡ None → new.left ≡ None) → (engine'.log.closed ≡ false → is_some seen' ≡ is_some seen)
+      → GotMore before.got (interim head) new.got → x.time ≤ x'.time → Gives answered.Disk seen seen' → Over seen engine base h
+      → (k : History) × (Cut (here_in seen) since (old_in seen) (new_in k seen') ⊎ Unanswered (old_in seen) (new_in k seen'))
+      × IsPrefixOf h k × (length k ≤ length h + 1) × (is_some seen ≡ true → M base h k) × (engine'.log.closed ≡ false → Over seen' engine' base k)
+  disk_failed since None seen' given none told sink later answers over = (
+    h,
+    inr (unanswered before.left at.left head read.0 read.1 read.2 (old_in None) (new_in h seen') refl sink refl).0,
+    all_of h,
+    omega arith,
+    (λ knows. absurd (true_is_false (sym knows))),
+    (λ is_open. untold seen' engine' base h (told is_open)),
+  )
+  disk_failed since (Some files) seen' given none told sink later answers over =
+      let a = answers base h (over files refl) in
+      by_stand a.0 a.1.1 a.2
+    where
+      by_stand : (k : History) → (k ≡ h) ⊎ MayStand (record { login = login; head = head; body = said (first_state head.framing (limit_of head)) at.left; moment = moment }) engine base h new.left k → M base h k
+          → (k : History) × (Cut (here_in (Some files)) since (old_in (Some files)) (new_in k seen') ⊎ Unanswered (old_in (Some files)) (new_in k seen'))
+          × IsPrefixOf h k × (length k ≤ length h + 1) × (true ≡ true → M base h k) × (engine'.log.closed ≡ false → Over seen' engine' base k)
+      by_stand k (inl same) m = (
+        h,
+        inr (unanswered before.left at.left head read.0 read.1 read.2 (old_in (Some files)) (new_in h seen') refl sink refl).0,
+        all_of h,
+        omega arith,
+        (λ knows. subst (λ (k : History). M base h k) same m),
+        (λ is_open. absurd (true_is_false (sym (answers base h (over files refl)).1.0 ∙ is_open))),
+      )
+      by_stand k (inr stood) m =
+          let o : Option Told = said (first_state head.framing (limit_of head)) at.left in
+          let r = message_read before.left at.left new.left head read.0 read.1 read.2 (IfSome_then o stood.whole (λ t w. (w.1, w.2))) none in (
+            k,
+            inl (record {
+              read = r.0;
+              head = head;
+              body = stood.bytes;
+              moment = moment;
+              answer = answer_of login engine.log.limit (replay base h) (engine.log.gate + 1) head stood.bytes moment;
+              written = [];
+              is_read = r.2 stood.bytes (IfSome_then o stood.whole (λ t w. w.0));
+              source = r.1;
+              given = given;
+              answered = refl;
+              front = (_, refl);
+              sink = subst (λ (bytes : Bytes). GotMore before.got bytes new.got) (sym (append-nil (interim head))) sink;
+              history = stood.history;
+              stands = nothing_told (here_in (Some files)) since (old_in (Some files)) (new_in k seen') k later;
+            }),
+            (_, sym stood.history),
+            one_more h k _ stood.history (one_command login engine.log.limit (replay base h) (engine.log.gate + 1) head stood.bytes moment),
+            (λ knows. m),
+            (λ is_open. absurd (true_is_false (sym (answers base h (over files refl)).1.0 ∙ is_open))),
+          )
+
+  -- memory was wanting: nothing was added
+  pub no_memory : (seen seen' : Option Files) → (engine'.log.closed ≡ false → is_some seen' ≡ is_some seen) → Gives answered.Memory seen seen' → Over seen engine base h
+      → (engine'.log.closed ≡ false → Over seen' engine' base h) × (is_some seen ≡ true → M base h h)
+  no_memory None seen' told answers over = ((λ is_open. untold seen' engine' base h (told is_open)), (λ knows. absurd (true_is_false (sym knows))))
+  no_memory (Some files) seen' told answers over =
+      let a = answers base h (over files refl) in
+      ((λ is_open other is. a.1.1 is_open), (λ knows. subst (λ (k : History). M base h k) a.1.0 a.2))
 
 -- what a reply shows stands in the log
 pub can_be_read : (seen : Option Files) (engine : EngineState) (b : ReplyBody Body) → Shows b seen engine → CanBeRead seen b
@@ -313,11 +307,6 @@ fault_not_disk is = cc
 
 pub fault_not_memory : answered.SourceFault ≡ answered.Memory → ⊥
 fault_not_memory is = cc
-
--- what is promised of a request whose body stands so before its source, over each history
-abbrev pub AnswersAt : Answered → BodyState → Bytes → Head → ℕ → (left left' : Option Bytes) (seen seen' : Option Files) (engine engine' : EngineState) → (State Bytes → History → History → Type 0) → Type 0
-AnswersAt result framer login head moment left left' seen seen' engine engine' M =
-    (base : State Bytes) (h : History) → IsCurrent seen engine base h → (k : History) × Answers result (record { login = login; head = head; body = said framer left; moment = moment }) engine base h left' seen' engine' k × M base h k
 
 -- how the body ended
 pub ends_so : (o : Option Told) (e : Ending) (left' : Option Bytes) → IfSome o (λ t. Hears (answered.Unfinished e) t left') → IfSome o (λ t. t.ending ≡ e)

@@ -5,4 +5,6 @@ pub mod Exchanging
 pub mod Reading
 pub mod Runs
 pub mod Sending
+pub mod Serving
+pub mod Standing
 pub mod Steps

@@ -57,28 +57,27 @@ module _ (before at : Option Bytes) (head : Head) (used : Bytes) (gone : LeftAft
   pub is_interim : IsInterim before (interim head)
   is_interim = (interim_either head, interim_at)
 
-  asked_for : (interim head ≡ []) ⊎ IfSome before (λ bytes. InterimAt bytes interim_line)
-  asked_for = elim (interim_either head) [ inl none ↦ inl none | inr line ↦ inr (subst (λ (text : Bytes). IfSome before (λ bytes. InterimAt bytes text)) line interim_at) ]
+  wanted_for : (interim head ≡ []) ⊎ IfSome before (λ bytes. InterimAt bytes interim_line)
+  wanted_for = elim (interim_either head) [ inl none ↦ inl none | inr line ↦ inr (subst (λ (text : Bytes). IfSome before (λ bytes. InterimAt bytes text)) line interim_at) ]
 
   -- nothing was added, and the interim reply was written
-  pub unanswered : (old new : Sides) → old.left ≡ before → GotMore old.got (interim head) new.got → new.history ≡ old.history → (u : Unanswered old new old.history) × (u.sent ≡ interim head)
+  pub unanswered : (old new : Sides) → old.left ≡ before → GotMore old.got (interim head) new.got → new.history ≡ old.history → (u : Unanswered old new) × (u.sent ≡ interim head)
   unanswered old new same sink history = (
     record {
       sent = interim head;
       sink = sink;
       part = interim_part head;
-      asked = elim asked_for [ inl none ↦ inl none | inr line ↦ inr (subst (λ (left : Option Bytes). IfSome left (λ bytes. InterimAt bytes interim_line)) (sym same) line) ];
+      asked_for = elim wanted_for [ inl none ↦ inl none | inr line ↦ inr (subst (λ (left : Option Bytes). IfSome left (λ bytes. InterimAt bytes interim_line)) (sym same) line) ];
       history = history;
-      told = refl;
     },
     refl,
   )
 
   -- a front of the interim reply was written
-  pub said_early : (old new : Sides) (written : Bytes) → old.left ≡ before → wants_interim head ≡ true → IsPrefixOf written interim_line → GotMore old.got written new.got → new.history ≡ old.history → Unanswered old new old.history
+  pub said_early : (old new : Sides) (written : Bytes) → old.left ≡ before → wants_interim head ≡ true → IsPrefixOf written interim_line → GotMore old.got written new.got → new.history ≡ old.history → Unanswered old new
   said_early old new written same wanted front sink history =
       let line = subst (λ (text : Bytes). IfSome before (λ bytes. InterimAt bytes text)) (interim_wanted head wanted) interim_at in
-      record { sent = written; sink = sink; part = front; asked = inr (subst (λ (left : Option Bytes). IfSome left (λ bytes. InterimAt bytes interim_line)) (sym same) line); history = history; told = refl }
+      record { sent = written; sink = sink; part = front; asked_for = inr (subst (λ (left : Option Bytes). IfSome left (λ bytes. InterimAt bytes interim_line)) (sym same) line); history = history }
 
 -- a message whose body is whole
 pub message_read : (before at new : Option Bytes) (head : Head) (used : Bytes) → LeftAfter before used at → SpellsHead used head
@@ -130,12 +129,11 @@ unfolding PlaceAt
 cut_place bytes cut = inl cut
 
 -- nothing was added or written
-abbrev pub nothing_said : (old new : Sides) → new.got ≡ old.got → new.history ≡ old.history → Unanswered old new old.history
+abbrev pub nothing_said : (old new : Sides) → new.got ≡ old.got → new.history ≡ old.history → Unanswered old new
 nothing_said old new same history = record {
   sent = [];
   sink = subst (λ (got : Option Bytes). GotMore old.got [] got) (sym same) (got_nothing old.got);
   part = (interim_line, refl);
-  asked = inl refl;
+  asked_for = inl refl;
   history = history;
-  told = refl;
 }

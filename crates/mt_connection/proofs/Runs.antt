@@ -1,32 +1,44 @@
--- How a connection goes on from one exchange to the next, and how it ends.
-use Rattle.std.proofs.Common.{◌≡◌, ℕ, ◌+◌, ◌<◌, List, [], ◌∷◌, ◌++◌, length, Option, Some, None, Bool, true, false, inl, inr, refl, ap, sym, subst, ◌∙◌, arith, append_assoc, append-nil, length-append, ◌||◌}
+-- How a connection goes on from one exchange to the next.
+use Rattle.std.proofs.Common.{◌≡◌, ℕ, ◌+◌, ◌<◌, List, [], ◌∷◌, ◌++◌, Option, Some, None, Bool, true, false, inl, inr, refl, ap, sym, subst, ◌∙◌, arith, append_assoc, append-nil, ◌||◌}
 use Rattle.std.specs.Prelude.{is_some}
 use Rattle.std.specs.List.{flat_map, list_any}
 use Rattle.std.proofs.lemmas.List.Concat.{flat_map-append}
 use Rattle.std.proofs.lemmas.List.Folds.{list_any-append}
 use Rattle.std.proofs.Math.Bool.{or-false}
+use Rattle.mt_disk.specs.Files.{Files}
 use Rattle.mt_edge.specs.Stream.{LeftAfter, GotMore}
 use Rattle.mt_edge.proofs.Streams.{left_after, got_more, got_nothing, left_all}
 use Rattle.mt_engine.specs.History.{Bytes, History}
 use Rattle.mt_model.specs.State.{State}
-use Rattle.mt_connection.specs.Endings.{Ends, IsOpen, Quiet, Served}
-use Rattle.mt_connection.specs.Sides.{NoneFell, Sides}
-use Rattle.mt_connection.specs.Transcript.{Exchange, Ran, Run, Setting, closing, commands_of, growth_of, grown, missed, read_of, said_by, setting}
+use Rattle.mt_connection.specs.Account.{AccountSide, NoCountFell}
+use Rattle.mt_connection.specs.Endings.{Ends, IsOpen}
+use Rattle.mt_connection.specs.Sides.{LinkSide, NoneFell, Sides, joined}
+use Rattle.mt_connection.specs.Steps.{Stepped}
+use Rattle.mt_connection.specs.Transcript.{Exchange, Ran, Run, Setting, asked_in, closing, commands_of, growth_of, grown, missed, read_of, said_by, setting}
 use Rattle.mt_connection.specs.declared.end.ConnectionEnd.{ConnectionEnd}
 use Rattle.mt_connection.specs.declared.end.ConnectionEnd.TheVariants.{Ended, Many, Truncated, Refused, SourceFault, SinkFault, Disk, Memory}
+use Rattle.mt_connection.specs.declared.end.Step.{Step}
 use Rattle.mt_connection.specs.declared.end.Step.TheVariants as step
+use Rattle.mt_connection.proofs.Crashes.{timed}
 
-none_fell : (old mid new : Sides) → NoneFell old mid → NoneFell mid new → NoneFell old new
-none_fell old mid new h k = record {
-  read = omega (arith, h.read, k.read);
-  write = omega (arith, h.write, k.write);
+pub no_count_fell : (old mid new : AccountSide) → NoCountFell old mid → NoCountFell mid new → NoCountFell old new
+no_count_fell old mid new h k = record {
   disk = omega (arith, h.disk, k.disk);
+  time = omega (arith, h.time, k.time);
+  asked = omega (arith, h.asked, k.asked);
   spawn = omega (arith, h.spawn, k.spawn);
   waits = omega (arith, h.waits, k.waits);
+  company = omega (arith, h.company, k.company);
 }
 
+pub none_fell : (old mid new : Sides) → NoneFell old mid → NoneFell mid new → NoneFell old new
+none_fell old mid new h k = record { read = omega (arith, h.read, k.read); write = omega (arith, h.write, k.write); account = no_count_fell _ _ _ h.account k.account }
+
+pub no_count_fell_self : (x : AccountSide) → NoCountFell x x
+no_count_fell_self x = record { disk = omega arith; time = omega arith; asked = omega arith; spawn = omega arith; waits = omega arith; company = omega arith }
+
 pub none_fell_self : (s : Sides) → NoneFell s s
-none_fell_self s = record { read = omega arith; write = omega arith; disk = omega arith; spawn = omega arith; waits = omega arith }
+none_fell_self s = record { read = omega arith; write = omega arith; account = no_count_fell_self _ }
 
 pub true_false : true ≡ false → ⊥
 true_false h = cc
@@ -46,23 +58,28 @@ missed-append : (xs ys : List Exchange) → missed (xs ++ ys) ≡ missed xs + mi
 missed-append [] ys = omega arith
 missed-append (x ∷ xs) ys = let more = missed-append xs ys in omega (arith, more)
 
+asked_in-append : (asked : ℕ) (xs ys : List Exchange) → asked_in asked (xs ++ ys) ≡ asked_in (asked_in asked xs) ys
+asked_in-append asked [] ys = refl
+asked_in-append asked (x ∷ xs) ys = asked_in-append x.turn.asked xs ys
+
 module _ (s : Setting) where
-  run_more : (h : History) (used : ℕ) (xs ys : List Exchange) → list_any closing xs ≡ false → Run s h used xs → Run s (h ++ flat_map commands_of xs) (used + grown xs) ys → Run s h used (xs ++ ys)
-  run_more h used [] ys none r more =
+  run_more : (h : History) (used asked : ℕ) (xs ys : List Exchange) → list_any closing xs ≡ false → Run s h used asked xs → Run s (h ++ flat_map commands_of xs) (used + grown xs) (asked_in asked xs) ys → Run s h used asked (xs ++ ys)
+  run_more h used asked [] ys none r more =
       let same : used + 0 ≡ used = omega arith in
-      subst (λ (u : ℕ). Run s h u ys) same (subst (λ (k : History). Run s k (used + 0) ys) (append-nil h) more)
-  run_more h used (x ∷ xs) ys none r more =
+      subst (λ (u : ℕ). Run s h u asked ys) same (subst (λ (k : History). Run s k (used + 0) asked ys) (append-nil h) more)
+  run_more h used asked (x ∷ xs) ys none r more =
       let parts = any_none (closing x) (list_any closing xs) none in
       let all : used + (growth_of x + grown xs) ≡ (used + growth_of x) + grown xs = omega arith in
-      let behind = subst (λ (u : ℕ). Run s ((h ++ commands_of x) ++ flat_map commands_of xs) u ys) all
-      (subst (λ (k : History). Run s k (used + (growth_of x + grown xs)) ys) (sym (append_assoc h (commands_of x) (flat_map commands_of xs))) more) in
-      (r.0, (λ c. absurd (true_false (sym c ∙ parts.0))), run_more (h ++ commands_of x) (used + growth_of x) xs ys parts.1 r.2 behind)
+      let behind = subst (λ (u : ℕ). Run s ((h ++ commands_of x) ++ flat_map commands_of xs) u (asked_in x.turn.asked xs) ys) all
+      (subst (λ (k : History). Run s k (used + (growth_of x + grown xs)) (asked_in x.turn.asked xs) ys) (sym (append_assoc h (commands_of x) (flat_map commands_of xs))) more) in
+      (r.0, (λ c. absurd (true_false (sym c ∙ parts.0))), run_more (h ++ commands_of x) (used + growth_of x) x.turn.asked xs ys parts.1 r.2 behind)
 
   pub ran_nothing : (old : Sides) → Ran s old [] old
   ran_nothing old = record {
     run = tt;
     history = sym (append-nil old.history);
     used = omega arith;
+    asked = refl;
     source = left_all old.left;
     sink = got_nothing old.got;
     missed = omega arith;
@@ -72,9 +89,12 @@ module _ (s : Setting) where
   -- exchanges after exchanges
   pub ran_more : (old : Sides) (xs : List Exchange) (mid : Sides) (ys : List Exchange) (new : Sides) → list_any closing xs ≡ false → Ran s old xs mid → Ran s mid ys new → Ran s old (xs ++ ys) new
   ran_more old xs mid ys new none h k = record {
-    run = run_more old.history old.used xs ys none h.run (subst (λ (u : ℕ). Run s (old.history ++ flat_map commands_of xs) u ys) h.used (subst (λ (hs : History). Run s hs mid.used ys) h.history k.run));
+    run = run_more old.history old.used old.asked xs ys none h.run
+        (subst (λ (n : ℕ). Run s (old.history ++ flat_map commands_of xs) (old.used + grown xs) n ys) h.asked
+        (subst (λ (u : ℕ). Run s (old.history ++ flat_map commands_of xs) u mid.asked ys) h.used (subst (λ (hs : History). Run s hs mid.used mid.asked ys) h.history k.run)));
     history = k.history ∙ (ap (λ (hs : History). hs ++ flat_map commands_of ys) h.history ∙ (append_assoc old.history (flat_map commands_of xs) (flat_map commands_of ys) ∙ ap (λ (cs : History). old.history ++ cs) (sym (flat_map-append commands_of xs ys))));
     used = let all = grown-append xs ys in let one = h.used in let two = k.used in omega (arith, all, one, two);
+    asked = k.asked ∙ (ap (λ (n : ℕ). asked_in n ys) h.asked ∙ sym (asked_in-append old.asked xs ys));
     source = subst (λ (bytes : Bytes). LeftAfter old.left bytes new.left) (sym (flat_map-append read_of xs ys)) (left_after old.left (flat_map read_of xs) mid.left (flat_map read_of ys) new.left h.source k.source);
     sink = subst (λ (bytes : Bytes). GotMore old.got bytes new.got) (sym (flat_map-append said_by xs ys)) (got_more old.got (flat_map said_by xs) mid.got (flat_map said_by ys) new.got h.sink k.sink);
     missed = let all = missed-append xs ys in let one = h.missed in let two = k.missed in omega (arith, all, one, two);
@@ -82,62 +102,29 @@ module _ (s : Setting) where
   }
 
   -- the end that is met at once is the end after exchanges
-  pub ends_after : (xs : List Exchange) (old : Sides) (end : ConnectionEnd) (new : Sides) (named : History) (most : ℕ) → IsOpen most xs → ((most : ℕ) → 0 < most → Ends s most [] old end new named) → Ends s most xs old end new named
-  ends_after xs old Ended new named most free h = (elim (h 1 (omega arith)).0 [ inl closed ↦ absurd (true_false (sym closed.0)) | inr end ↦ inr (free, end.1) ], (h 1 (omega arith)).1)
-  ends_after xs old Many new named most free h = absurd (zero_one (h 1 (omega arith)).1)
-  ends_after xs old Truncated new named most free h = (free, (h 1 (omega arith)).1)
-  ends_after xs old Refused new named most free h = (free, (h 1 (omega arith)).1)
-  ends_after xs old SourceFault new named most free h = (free, (h 1 (omega arith)).1)
-  ends_after xs old SinkFault new named most free h = (free, (h 1 (omega arith)).1, (h 1 (omega arith)).2)
-  ends_after xs old Disk new named most free h = (free, (h 1 (omega arith)).1, (h 1 (omega arith)).2)
-  ends_after xs old Memory new named most free h = (free, (h 1 (omega arith)).1)
-
-  -- the step that ends the connection
-  abbrev pub served_over : (most : ℕ) (old : Sides) (xs : List Exchange) (mid : Sides) (end : ConnectionEnd) (new : Sides) (named : History) → IsOpen most xs → Ran s old xs mid → NoneFell mid new
-      → ((most : ℕ) → 0 < most → Ends s most [] mid end new named) → Served s most old end new
-  served_over most old xs mid end new named free ran counts ends =
-      record { exchanges = xs; middle = mid; named = named; ran = ran; counts = counts; ends = ends_after xs mid end new named most free ends }
-
-  pub quiet_self : (old : Sides) → Quiet old old old.history
-  quiet_self old = record { history = refl; used = refl; got = refl; told = refl }
-
-  -- an exchange that closes ends the connection
-  abbrev pub served_closed : (most : ℕ) (old : Sides) (xs : List Exchange) (x : Exchange) (new : Sides) → length xs < most → list_any closing (xs ++ x ∷ []) ≡ true → Ran s old (xs ++ x ∷ []) new → Served s most old Ended new
-  served_closed most old xs x new few closes ran = record {
-    exchanges = xs ++ x ∷ [];
-    middle = new;
-    named = new.history;
-    ran = ran;
-    counts = none_fell_self new;
-    ends = (inl (closes, (let one : length (xs ++ x ∷ []) ≡ length xs + 1 = length-append xs (x ∷ []) in omega (arith, one, few))), quiet_self new);
-  }
-
-  -- as many messages as a connection has were answered
-  abbrev pub served_many : (most : ℕ) (old : Sides) (xs : List Exchange) (new : Sides) → list_any closing xs ≡ false → Ran s old xs new → length xs ≡ most → Served s most old Many new
-  served_many most old xs new none ran count = record { exchanges = xs; middle = new; named = new.history; ran = ran; counts = none_fell_self new; ends = (none, count, quiet_self new) }
+  pub ends_after : (since : ℕ → Files → Type 0) (xs : List Exchange) (old : Sides) (end : ConnectionEnd) (new : Sides) (most : ℕ) → IsOpen most xs → ((most : ℕ) → 0 < most → Ends s since most [] old end new) → Ends s since most xs old end new
+  ends_after since xs old Ended new most free h = (elim (h 1 (omega arith)).0 [ inl closed ↦ absurd (true_false (sym closed.0)) | inr end ↦ inr (free, end.1) ], (h 1 (omega arith)).1)
+  ends_after since xs old Many new most free h = absurd (zero_one (h 1 (omega arith)).1)
+  ends_after since xs old Truncated new most free h = (free, (h 1 (omega arith)).1)
+  ends_after since xs old Refused new most free h = (free, (h 1 (omega arith)).1)
+  ends_after since xs old SourceFault new most free h = (free, (h 1 (omega arith)).1)
+  ends_after since xs old SinkFault new most free h = (free, (h 1 (omega arith)).1, (h 1 (omega arith)).2)
+  ends_after since xs old Disk new most free h = (free, (h 1 (omega arith)).1, (h 1 (omega arith)).2)
+  ends_after since xs old Memory new most free h = (free, (h 1 (omega arith)).1)
 
 pub closing_more : (xs : List Exchange) (x : Exchange) (b : Bool) → list_any closing xs ≡ false → closing x ≡ b → list_any closing (xs ++ x ∷ []) ≡ b
 closing_more xs x b none is = list_any-append closing xs (x ∷ []) ∙ (ap (λ (c : Bool). c || (closing x || false)) none ∙ (or-false (closing x) ∙ is))
 
 -- a step of a connection in the setting that the connection began with
-module _ {R : Type 0} (gives : R → ℕ → Type 0) (login : Bytes) (base : State Bytes) where
-  pub in_setting : (P : Setting → Type 0) (hears hears' knows knows' : Bool) (rule rule' : R) (limit limit' : ℕ) → hears' ≡ hears → knows' ≡ knows → rule' ≡ rule → limit' ≡ limit
-      → P (setting hears' knows' (gives rule') login limit' base) → P (setting hears knows (gives rule) login limit base)
-  in_setting P hears hears' knows knows' rule rule' limit limit' same_hears same_knows same_rule same_limit p =
-      subst (λ (b : Bool). P (setting b knows (gives rule) login limit base)) same_hears
-      (subst (λ (b : Bool). P (setting hears' b (gives rule) login limit base)) same_knows
-      (subst (λ (r : R). P (setting hears' knows' (gives r) login limit base)) same_rule
-      (subst (λ (l : ℕ). P (setting hears' knows' (gives rule') login l base)) same_limit p)))
-
-  pub ran_here : (hears hears' knows knows' : Bool) (rule rule' : R) (limit limit' : ℕ) → hears' ≡ hears → knows' ≡ knows → rule' ≡ rule → limit' ≡ limit
-      → (mid : Sides) (xs : List Exchange) (new : Sides) → Ran (setting hears' knows' (gives rule') login limit' base) mid xs new → Ran (setting hears knows (gives rule) login limit base) mid xs new
-  ran_here hears hears' knows knows' rule rule' limit limit' a b c d mid xs new = in_setting (λ s. Ran s mid xs new) hears hears' knows knows' rule rule' limit limit' a b c d
-
-  pub ends_here : (hears hears' knows knows' : Bool) (rule rule' : R) (limit limit' : ℕ) → hears' ≡ hears → knows' ≡ knows → rule' ≡ rule → limit' ≡ limit
-      → (mid : Sides) (end : ConnectionEnd) (new : Sides) (named : History) → ((most : ℕ) → 0 < most → Ends (setting hears' knows' (gives rule') login limit' base) most [] mid end new named)
-      → (most : ℕ) → 0 < most → Ends (setting hears knows (gives rule) login limit base) most [] mid end new named
-  ends_here hears hears' knows knows' rule rule' limit limit' a b c d mid end new named ends most some =
-      in_setting (λ s. Ends s most [] mid end new named) hears hears' knows knows' rule rule' limit limit' a b c d (ends most some)
+pub stepped_here : {R : Type 0} (moments : R → ℕ → ℕ → Type 0) (login : Bytes) (base : State Bytes) (since : ℕ → Files → Type 0) (images : Files → Type 0) (hears hears' knows knows' : Bool) (rule rule' : R) (limit limit' : ℕ)
+    → hears' ≡ hears → knows' ≡ knows → rule' ≡ rule → limit' ≡ limit → (link : LinkSide) (x : AccountSide) (is : Step) (link' : LinkSide) (x' : AccountSide)
+    → Stepped (setting hears' knows' (moments rule') login limit' base) since images (joined link (timed knows' x)) is (joined link' (timed knows' x'))
+    → Stepped (setting hears knows (moments rule) login limit base) since images (joined link (timed knows x)) is (joined link' (timed knows x'))
+stepped_here moments login base since images hears hears' knows knows' rule rule' limit limit' same_hears same_knows same_rule same_limit link x is link' x' s =
+    subst (λ (b : Bool). Stepped (setting b knows (moments rule) login limit base) since images (joined link (timed knows x)) is (joined link' (timed knows x'))) same_hears
+    (subst (λ (b : Bool). Stepped (setting hears' b (moments rule) login limit base) since images (joined link (timed b x)) is (joined link' (timed b x'))) same_knows
+    (subst (λ r. Stepped (setting hears' knows' (moments r) login limit base) since images (joined link (timed knows' x)) is (joined link' (timed knows' x'))) same_rule
+    (subst (λ (l : ℕ). Stepped (setting hears' knows' (moments rule') login l base) since images (joined link (timed knows' x)) is (joined link' (timed knows' x'))) same_limit s)))
 
 -- what tells goes on so
 pub still_heard : (old : Option Bytes) (read : Bytes) (new : Option Bytes) → LeftAfter old read new → is_some new ≡ is_some old

@@ -72,3 +72,15 @@ pub bare_text : (reply : Reply Body) (bytes : Bytes) (head : Head) (n : ℕ) →
 bare_text reply bytes head n size bare =
     ap (λ (b : Bool). head_text reply.status reply.fields reply.closes (length bytes) ++ cond {A = List ℕ} b [] bytes) bare
     ∙ (append-nil (head_text reply.status reply.fields reply.closes (length bytes)) ∙ ap (head_text reply.status reply.fields reply.closes) size)
+
+-- sending lets no count of the disk fall
+pub sends_on : (closing : Bool) (text : Bytes) (is : Step) (got got' : Option Bytes) (w w' d d' : ℕ) → Sends closing text is got got' w w' d d' → NeverFell d d'
+sends_on closing text (step.Went closed) got got' w w' d d' sent = sent.3
+sends_on closing text (step.Over ended.SinkFault) got got' w w' d d' sent = sent.2
+sends_on closing text (step.Over ended.Disk) got got' w w' d d' sent = let rose = sent.2 in omega (arith, rose)
+sends_on closing text (step.Over ended.Memory) got got' w w' d d' sent = sent.2
+sends_on closing text (step.Over ended.Ended) got got' w w' d d' sent = absurd sent
+sends_on closing text (step.Over ended.Many) got got' w w' d d' sent = absurd sent
+sends_on closing text (step.Over ended.Truncated) got got' w w' d d' sent = absurd sent
+sends_on closing text (step.Over ended.Refused) got got' w w' d d' sent = absurd sent
+sends_on closing text (step.Over ended.SourceFault) got got' w w' d d' sent = absurd sent

@@ -1,5 +1,7 @@
+pub mod Account
+pub mod Turning
 pub mod Sides
 pub mod Transcript
-pub mod Endings
 pub mod Outcomes
+pub mod Endings
 pub mod Steps

@@ -1,23 +1,27 @@
 -- What the parts of one exchange do: a head is read, a reply is sent, a refusal is written; and the whole of it.
-use Rattle.std.specs.Prelude.{◌≡◌, ℕ, ◌-◌, ◌<◌, ◌≤◌, Bool, true, [], ◌∷◌, length, take, drop, Option, Err}
+use Rattle.std.specs.Prelude.{◌≡◌, ℕ, ◌-◌, ◌<◌, ◌≤◌, Bool, true, [], ◌∷◌, length, take, drop, false, Option, is_some, Err}
 use Rattle.std.specs.Option.{ForSome}
 use Rattle.mt_base.specs.Counts.{NeverFell, Rose}
+use Rattle.mt_base.specs.Lists.{IsPrefixOf}
 use Rattle.mt_body.specs.Stored.{bytes_of, is_stored}
+use Rattle.mt_disk.specs.CrashModel.{LeavesOnly}
 use Rattle.mt_disk.specs.Files.{Files}
 use Rattle.mt_edge.specs.Stream.{GotMore, LeftAfter, WritesFront}
+use Rattle.mt_engine.specs.Current.{EngineState, IsBetween, Over}
 use Rattle.mt_engine.specs.History.{Bytes, History}
 use Rattle.mt_http.specs.Framing.{ReceivesHead, SpellsHead}
 use Rattle.mt_http.specs.Options.{interim, interim_line, wants_interim}
 use Rattle.mt_http.specs.ReplyText.{text_with}
 use Rattle.mt_http.specs.declared.message.Head.{Head}
 use Rattle.mt_log.specs.LogState.{told}
+use Rattle.mt_model.specs.State.{State}
 use Rattle.mt_types.specs.declared.body.Body.{Body}
 use Rattle.mt_types.specs.declared.reply.Reply.{Reply}
 use Rattle.mt_types.specs.declared.reply.ReplyBody.{ReplyBody}
 use Rattle.mt_types.specs.declared.reply.ReplyBody.TheVariants.{Held, Part}
 use Rattle.mt_connection.specs.Endings.{Ends, Images}
 use Rattle.mt_connection.specs.Sides.{LinkSide, NoneFell, Sides}
-use Rattle.mt_connection.specs.Transcript.{Exchange, Ran, Setting, closing, is_head}
+use Rattle.mt_connection.specs.Transcript.{Exchange, Ran, Setting, Stand, closing, is_head}
 use Rattle.mt_connection.specs.declared.end.ConnectionEnd.TheVariants as ended
 use Rattle.mt_connection.specs.declared.end.Step.{Step}
 use Rattle.mt_connection.specs.declared.end.Step.TheVariants as step
@@ -71,11 +75,19 @@ Receives received.SinkFault old new =
     ((head : Head) × (wants_interim head ≡ true) × (read : Bytes) × LeftAfter old.left read new.left × SpellsHead read head) × WritesFront old.got interim_line new.got
     × NeverFell old.read_faults new.read_faults × Rose old.write_faults new.write_faults
 
--- One step of a connection: a whole exchange, or the end. Images are what a crash may leave, where the disk tells what it holds.
-abbrev pub Stepped : Setting → (Files → Type 0) → Sides → Step → Sides → Type 0
-Stepped s images old (step.Went closed) new = (x : Exchange) × (closing x ≡ closed) × Ran s old (x ∷ []) new
-Stepped s images old (step.Over end) new =
-    (named : History) × ((most : ℕ) → 0 < most → Ends s most [] old end new named) × NoneFell old new × (s.knows ≡ true → Images end s.base new.history named images)
+-- One step of a connection: a whole exchange, or the end. Images are what a crash now may leave, and since at some moment from one on.
+abbrev pub Stepped : Setting → (ℕ → Files → Type 0) → (Files → Type 0) → Sides → Step → Sides → Type 0
+Stepped s since images old (step.Went closed) new =
+    (x : Exchange) × (closing x ≡ closed) × Ran s old (x ∷ []) new × Stand s since old.history old.time (x ∷ []) new.time
+Stepped s since images old (step.Over end) new =
+    ((most : ℕ) → 0 < most → Ends s since most [] old end new) × NoneFell old new × (s.knows ≡ true → Images end s.base new.history images)
+
+-- What a call over a base led to: the history goes on from h to k, the engine stands for k where it is open, and a crash at any moment of
+-- the call leaves a history between.
+pub record MovesOn {D : Type 0} (seen : D → Option Files) (moment : D → ℕ) (left_since : D → ℕ → Files → Type 0) (disk disk' : D) (engine' : EngineState) (base : State Bytes) (h k : History) : Type 0 where
+  pub over : engine'.log.closed ≡ false → Over (seen disk') engine' base k
+  pub front : IsPrefixOf h k
+  pub any_moment : is_some (seen disk) ≡ true → LeavesOnly moment left_since disk disk' (IsBetween base h k)
 
 -- a head has no more fields than this
 abbrev pub HasFewFields : Received → Type 0

@@ -1,13 +1,13 @@
 -- What was said on a connection: exchanges of a message and its reply, one after another.
-use Rattle.std.specs.Prelude.{◌≡◌, ℕ, ◌+◌, Bool, true, ◌||◌, List, [], ◌∷◌, ◌++◌, bytes_eq, codes, Option}
+use Rattle.std.specs.Prelude.{◌≡◌, ℕ, ◌+◌, ◌≤◌, Bool, true, ◌||◌, List, [], ◌∷◌, ◌++◌, bytes_eq, codes}
 use Rattle.std.specs.Bool.{MatchBool}
 use Rattle.std.specs.List.{flat_map}
-use Rattle.std.specs.Option.{ForSome}
-use Rattle.mt_answer.specs.Answer.{Answer, answer_of}
+use Rattle.mt_answer.specs.Answer.{Answer}
+use Rattle.mt_answer.specs.Whole.{answer_of}
 use Rattle.mt_base.specs.Counts.{RoseBy}
 use Rattle.mt_disk.specs.Files.{Files}
 use Rattle.mt_edge.specs.Stream.{LeftAfter, GotMore}
-use Rattle.mt_engine.specs.Current.{EngineState, IsCurrent}
+use Rattle.mt_engine.specs.Current.{HasFront}
 use Rattle.mt_engine.specs.History.{Bytes, History}
 use Rattle.mt_http.specs.Framing.{RequestAt, body_of}
 use Rattle.mt_http.specs.Options.{closes, interim}
@@ -16,47 +16,38 @@ use Rattle.mt_http.specs.declared.message.Ending.TheVariants.{Whole}
 use Rattle.mt_http.specs.declared.message.Head.{Head}
 use Rattle.mt_model.specs.CommandStep.{replay}
 use Rattle.mt_model.specs.State.{State}
+use Rattle.mt_connection.specs.Account.{asked_again}
 use Rattle.mt_connection.specs.Sides.{NoneFell, Sides}
-
--- what a turn between two messages did: its commands, by how much the log grew, and whether a task was ready and nothing was added
-pub record Turn : Type 0 where
-  pub added : History
-  pub grew : ℕ
-  pub missed : ℕ
-
--- no turn is taken
-abbrev pub no_turn : Turn
-no_turn = record { added = []; grew = 0; missed = 0 }
-
--- the moments that a clock of this rule may give, at whichever of its calls
-abbrev pub at_any_call : {R : Type 0} → (gives : R → ℕ → ℕ → Type 0) → R → ℕ → Type 0
-at_any_call gives rule moment = (call : ℕ) × gives rule call moment
+use Rattle.mt_connection.specs.Turning.{TurnTaken, no_turn}
 
 -- what stays the same while a connection is served
 pub record Setting : Type 1 where
   -- whether the link tells what is left to be read, and whether the disk tells what it holds
   pub hears : Bool
   pub knows : Bool
-  -- the moments that the clock may give
-  pub gives : ℕ → Type 0
+  -- the moments that the call of a number of the clock may give
+  pub moments : ℕ → ℕ → Type 0
   pub login : Bytes
   -- how many bytes the log may have
   pub limit : ℕ
   -- the state behind which the history stands
   pub base : State Bytes
-  -- the turns that may follow a history in a log of so many bytes
-  pub turned : History → ℕ → Turn → Type 0
+  -- the turns that may follow a history, a log of so many bytes and so many calls of the clock
+  pub turned : History → ℕ → ℕ → TurnTaken → Type 0
 
 -- a setting in which no turns are taken
-abbrev pub setting : Bool → Bool → (ℕ → Type 0) → Bytes → ℕ → State Bytes → Setting
-setting hears knows gives login limit base =
-    record { hears = hears; knows = knows; gives = gives; login = login; limit = limit; base = base; turned = λ history used turn. turn ≡ no_turn }
+abbrev pub setting : Bool → Bool → (ℕ → ℕ → Type 0) → Bytes → ℕ → State Bytes → Setting
+setting hears knows moments login limit base = record {
+  hears = hears;
+  knows = knows;
+  moments = moments;
+  login = login;
+  limit = limit;
+  base = base;
+  turned = λ history used asked turn. turn ≡ no_turn asked;
+}
 
--- where the disk tells what it holds, the engine stands for this base and history
-abbrev pub Over : Option Files → EngineState → State Bytes → History → Type 0
-Over seen engine base h = ForSome seen (λ files. IsCurrent seen engine base h)
-
--- one message with its answer: a reply, the commands that stand before it, and by how much the log grew
+-- one message with its answer: a reply, the commands that stand before it, and by how much the log grew; and the turn behind it
 pub record Exchange : Type 0 where
   -- the message's bytes, its head and its body
   pub read : Bytes
@@ -64,7 +55,9 @@ pub record Exchange : Type 0 where
   pub body : Bytes
   pub moment : ℕ
   pub answer : Answer Bytes
-  pub turn : Turn
+  -- the disk's moment at which its answer was there
+  pub settled : ℕ
+  pub turn : TurnTaken
 
 -- the request is a HEAD: its reply has no body
 abbrev pub is_head : Head → Bool
@@ -96,6 +89,11 @@ abbrev pub missed : List Exchange → ℕ
 missed [] = 0
 missed (x ∷ xs) = x.turn.missed + missed xs
 
+-- how often the clock was asked once they were over
+abbrev pub asked_in : ℕ → List Exchange → ℕ
+asked_in asked [] = asked
+asked_in asked (x ∷ xs) = asked_in x.turn.asked xs
+
 -- no message follows it
 abbrev pub closing : Exchange → Bool
 closing x = closes x.head.minor x.head.fields
@@ -110,24 +108,37 @@ abbrev pub IsTheAnswer : Setting → History → ℕ → Head → Bytes → ℕ 
 IsTheAnswer s h used head body moment answer =
     MatchBool s.knows (answer ≡ answer_of s.login s.limit (replay s.base h) used head body moment) ((answer.added ≡ []) × (answer.grew ≡ 0))
 
--- this exchange may happen over this history and a log of so many bytes
-pub record IsExchange (s : Setting) (h : History) (used : ℕ) (x : Exchange) : Type 0 where
+-- This exchange may happen over this history, a log of so many bytes and so many calls of the clock: one call is for it, and its turn
+-- comes behind.
+pub record IsExchange (s : Setting) (h : History) (used asked : ℕ) (x : Exchange) : Type 0 where
   pub is_read : s.hears ≡ true → SpellsBoth x.read x.head x.body
-  pub given : s.gives x.moment
+  pub given : s.moments asked x.moment
   pub answered : IsTheAnswer s h used x.head x.body x.moment x.answer
-  pub turned : s.turned (h ++ x.answer.added) (used + x.answer.grew) x.turn
+  pub turned : s.turned (h ++ x.answer.added) (used + x.answer.grew) (asked_again asked) x.turn
 
 -- these exchanges may happen one after another, and none follows one that closes
-abbrev pub Run : Setting → History → ℕ → List Exchange → Type 0
-Run s h used [] = Unit {0}
-Run s h used (x ∷ xs) = IsExchange s h used x × (closing x ≡ true → xs ≡ []) × Run s (h ++ commands_of x) (used + growth_of x) xs
+abbrev pub Run : Setting → History → (used asked : ℕ) → List Exchange → Type 0
+Run s h used asked [] = Unit {0}
+Run s h used asked (x ∷ xs) = IsExchange s h used asked x × (closing x ≡ true → xs ≡ []) × Run s (h ++ commands_of x) (used + growth_of x) x.turn.asked xs
 
 -- these exchanges lead from old to new
 pub record Ran (s : Setting) (old : Sides) (xs : List Exchange) (new : Sides) : Type 0 where
-  pub run : Run s old.history old.used xs
+  pub run : Run s old.history old.used old.asked xs
   pub history : new.history ≡ old.history ++ flat_map commands_of xs
   pub used : new.used ≡ old.used + grown xs
+  pub asked : new.asked ≡ asked_in old.asked xs
   pub source : LeftAfter old.left (flat_map read_of xs) new.left
   pub sink : GotMore old.got (flat_map said_by xs) new.got
   pub missed : RoseBy (missed xs) (old.tasks.waits + old.tasks.faults) (new.tasks.waits + new.tasks.faults)
   pub counts : NoneFell old new
+
+-- at each moment from this one on a crash leaves a history that begins so
+abbrev pub HoldsSince : (ℕ → Files → Type 0) → ℕ → State Bytes → History → Type 0
+HoldsSince since t base h = (c : Files) → since t c → HasFront base c h
+
+-- Between these moments of the disk each answer was there before the next message: from then on each image has the commands that its
+-- reply tells of.
+abbrev pub Stand : Setting → (ℕ → Files → Type 0) → History → (from : ℕ) → List Exchange → (to : ℕ) → Type 0
+Stand s since h from [] to = from ≤ to
+Stand s since h from (x ∷ xs) to =
+    (from ≤ x.settled) × (s.knows ≡ true → HoldsSince since x.settled s.base (h ++ x.answer.added)) × Stand s since (h ++ commands_of x) x.settled xs to

@@ -5,8 +5,8 @@
 //! - `receive`: a head and the interim reply behind it; `respond`: a reply; `refuse`: what is no message.
 //! - `laws`: what the bytes of a source say of its end is one thing.
 //!
-//! In `specs/` begin with `Transcript`, the exchanges of a connection, and `Endings`, its ends; `Sides` is what both change.
-//! `Steps` says what the parts do, `Outcomes` what the bytes alone say.
+//! In `specs/` begin with `Transcript`, the exchanges of a connection, and `Endings`, its ends; `Sides` is what both change, `Account` the
+//! part of it that is no link, `Turning` what a turn of tasks does. `Steps` says what the parts do, `Outcomes` what the bytes alone say.
 #![tactic(auto)]
 
 mod answering;

@@ -1,5 +1,6 @@
 //! The head of the next message, and the interim reply behind it.
 ghost use Rattle.std.specs.Prelude.{◌≤◌, length, ⊤};
+ghost use Rattle.mt_connection.specs.Sides.{side_of};
 ghost use Rattle.mt_connection.specs.Steps.{HasFewFields, Receives};
 
 use mt_edge::Both;
@@ -20,9 +21,7 @@ pub(crate) enum Received {
 /// Reads the head of the next message, and writes the interim reply where it asks for one, before its body is read (RFC 9110,
 /// section 10.1.1).
 pub(crate) fn receive<L: Both>(alloc: Global, link: &mut L) -> Received
-    ensures receives { Receives result
-        (record { left = L.left link.old; got = L.got link.old; read_faults = L.read_faults link.old; write_faults = L.write_faults link.old })
-        (record { left = L.left link.new; got = L.got link.new; read_faults = L.read_faults link.new; write_faults = L.write_faults link.new }) }
+    ensures receives { Receives result (side_of L.left L.got L.read_faults L.write_faults link.old) (side_of L.left L.got L.read_faults L.write_faults link.new) }
     ensures few { HasFewFields result }
     ensures stays { L.stays link.old link.new }
 {

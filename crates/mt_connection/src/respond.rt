@@ -10,7 +10,7 @@ ghost use Rattle.mt_engine.specs.History.{Bytes};
 ghost use Rattle.mt_http.specs.Options as options;
 ghost use Rattle.mt_http.specs.ReplyText.{head_text};
 ghost use Rattle.mt_http.specs.ReplyWriting.{WritesText};
-ghost use Rattle.mt_log.specs.LogState.{IsThere, Stands, told};
+ghost use Rattle.mt_log.specs.LogState.{IsThere, told};
 ghost use Rattle.mt_types.specs.declared.reply.ReplyBody.TheVariants.{Part};
 ghost use Rattle.mt_connection.specs.Steps.{CanBeRead, IsBodyOf, Loads, Sends, text_to};
 ghost use Rattle.mt_connection.specs.Transcript as words;
@@ -83,7 +83,6 @@ fn part_of<D: Disk>(
     ensures ok { IfOk result (λ bytes. IsBodyOf (D.seen disk.old) (Part body.now from to) bytes) }
     ensures ends { IfErr result (λ end. (end ≡ ConnectionEnd.Memory) ⊎ ((end ≡ ConnectionEnd.Disk) × Rose (D.faults disk.old) (D.faults disk.new))) }
     ensures read { OnlyRead D.seen D.may_leave D.moment D.left_since disk.old disk.new }
-    ensures stands { Stands D.seen D.may_leave disk.old engine.now.log → Stands D.seen D.may_leave disk.new engine.now.log }
     ensures faults { NeverFell (D.faults disk.old) (D.faults disk.new) }
 {
     let mut bytes = match zeros(alloc, (to - from) as usize) {
@@ -115,7 +114,6 @@ fn send_part<D: Disk, K: Sink>(
     ensures sends { (bytes : Bytes) × IsBodyOf (D.seen disk.old) (Part body.now from to) bytes × Sends closing (head_text reply.now.status reply.now.fields reply.now.closes (to - from) ++ bytes) result
         (K.got sink.old) (K.got sink.new) (K.write_faults sink.old) (K.write_faults sink.new) (D.faults disk.old) (D.faults disk.new) }
     ensures read { OnlyRead D.seen D.may_leave D.moment D.left_since disk.old disk.new }
-    ensures stands { Stands D.seen D.may_leave disk.old engine.now.log → Stands D.seen D.may_leave disk.new engine.now.log }
     ensures stays { K.sink_stays sink.old sink.new }
 {
     let size = to - from;
@@ -148,7 +146,6 @@ fn send<D: Disk, K: Sink>(
     ensures sends { (body : Bytes) × IsBodyOf (D.seen disk.old) reply.now.body body × Sends (options.closes head.now.minor head.now.fields) (text_to reply.now body head.now) result
         (K.got sink.old) (K.got sink.new) (K.write_faults sink.old) (K.write_faults sink.new) (D.faults disk.old) (D.faults disk.new) }
     ensures read { OnlyRead D.seen D.may_leave D.moment D.left_since disk.old disk.new }
-    ensures stands { Stands D.seen D.may_leave disk.old engine.now.log → Stands D.seen D.may_leave disk.new engine.now.log }
     ensures stays { K.sink_stays sink.old sink.new }
 {
     let closing = closes(head.minor, head.fields.as_slice());
@@ -187,7 +184,6 @@ fn loaded<D: Disk>(
     ensures ok { IfOk result (λ held. Loads (D.seen disk.old) reply held) }
     ensures ends { IfErr result (λ end. (end ≡ ConnectionEnd.Memory) ⊎ ((end ≡ ConnectionEnd.Disk) × Rose (D.faults disk.old) (D.faults disk.new))) }
     ensures read { OnlyRead D.seen D.may_leave D.moment D.left_since disk.old disk.new }
-    ensures stands { Stands D.seen D.may_leave disk.old engine.now.log → Stands D.seen D.may_leave disk.new engine.now.log }
     ensures faults { NeverFell (D.faults disk.old) (D.faults disk.new) }
 {
     let Reply {
@@ -224,7 +220,6 @@ pub(crate) fn respond<D: Disk, K: Sink>(
     ensures sends { (body : Bytes) × IsBodyOf (D.seen disk.old) reply.body body × Sends (options.closes head.now.minor head.now.fields) (text_to reply body head.now) result
         (K.got sink.old) (K.got sink.new) (K.write_faults sink.old) (K.write_faults sink.new) (D.faults disk.old) (D.faults disk.new) }
     ensures read { OnlyRead D.seen D.may_leave D.moment D.left_since disk.old disk.new }
-    ensures stands { Stands D.seen D.may_leave disk.old engine.now.log → Stands D.seen D.may_leave disk.new engine.now.log }
     ensures stays { K.sink_stays sink.old sink.new }
 {
     if !is_small(&reply, head) {

@@ -3,7 +3,6 @@ use Rattle.std.proofs.Common.{◌≡◌, ℕ, ◌+◌, Bool, List, [], ◌∷◌
 use Rattle.std.specs.Prelude.{if◌then◌else◌, is_some, option_map}
 use Rattle.mt_edge.specs.Doors.{Comes, as_count}
 use Rattle.mt_edge.specs.declared.next.Next.TheVariants as next
-use Rattle.mt_engine.specs.History.{History}
 use Rattle.mt_connection.specs.declared.end.ConnectionEnd.{ConnectionEnd}
 use Rattle.mt_server.specs.Events.{Had, Passed, Woke, door_side}
 use Rattle.mt_server.proofs.Following.{none_back, none_taken}
@@ -21,9 +20,9 @@ first_told link None = refl
 first_told link (Some w) = refl
 
 -- a link had its turn and was given back: what it was before the call, when the turn began, and behind it
-module _ {L : Type 0} (w b w1 b1 w2 b2 : Option (List L)) (t o k f t1 o1 k1 f1 t2 o2 f2 : ℕ) (link given : L) (r : Bool) (end : ConnectionEnd) (named : History) where
+module _ {L : Type 0} (w b w1 b1 w2 b2 : Option (List L)) (t o k f t1 o1 k1 f1 t2 o2 f2 : ℕ) (link given : L) (r : Bool) (end : ConnectionEnd) where
   pub passed_new : (fresh : Bool) → Comes fresh w t k f (next.New link) w1 t1 k1 f1 → b1 ≡ b → o1 ≡ o → (is_some w1 ≡ true → r ≡ true) → o2 ≡ o1 + as_count r → b2 ≡ option_map (λ links. if r then links ++ given ∷ [] else links) b1
-      → (w2 ≡ w1) × (t2 ≡ t1) × (f2 ≡ f1) → Passed (door_side w b t o f) (Had (record { taken = link; given = given; first = true; over = r; end = end; named = named }) ∷ []) (door_side w2 b2 t2 o2 f2)
+      → (w2 ≡ w1) × (t2 ≡ t1) × (f2 ≡ f1) → Passed (door_side w b t o f) (Had (record { taken = link; given = given; first = true; over = r; end = end }) ∷ []) (door_side w2 b2 t2 o2 f2)
   passed_new fresh came same_back same_over whole over back stays = record {
     whole = λ told. (refl, whole (sym (first_told link w1) ∙ (sym (ap is_some came.1) ∙ told)), tt);
     taken = came.1 ∙ ap (option_map (λ rest. link ∷ rest)) (sym stays.0);
@@ -34,7 +33,7 @@ module _ {L : Type 0} (w b w1 b1 w2 b2 : Option (List L)) (t o k f t1 o1 k1 f1 t
   }
 
   pub passed_again : (fresh : Bool) → Comes fresh w t k f (next.Again link) w1 t1 k1 f1 → b1 ≡ b → o1 ≡ o → o2 ≡ o1 + as_count r → b2 ≡ option_map (λ links. if r then links ++ given ∷ [] else links) b1
-      → (w2 ≡ w1) × (t2 ≡ t1) × (f2 ≡ f1) → Passed (door_side w b t o f) (Had (record { taken = link; given = given; first = false; over = r; end = end; named = named }) ∷ []) (door_side w2 b2 t2 o2 f2)
+      → (w2 ≡ w1) × (t2 ≡ t1) × (f2 ≡ f1) → Passed (door_side w b t o f) (Had (record { taken = link; given = given; first = false; over = r; end = end }) ∷ []) (door_side w2 b2 t2 o2 f2)
   passed_again fresh came same_back same_over over back stays = record {
     whole = λ told. absurd (none_is w came.0 told);
     taken = came.0 ∙ ap (option_map (λ rest. link ∷ rest)) (sym (stays.0 ∙ (came.1 ∙ came.0)));

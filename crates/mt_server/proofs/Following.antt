@@ -1,12 +1,11 @@
 -- Events after events.
-use Rattle.std.proofs.Common.{◌≡◌, ◌+◌, ℕ, Bool, List, [], ◌∷◌, ◌++◌, length, map, Option, Some, None, true, false, refl, ap, sym, subst, ◌∙◌, append_assoc, append-nil, arith}
+use Rattle.std.proofs.Common.{◌≡◌, ◌+◌, Bool, List, [], ◌∷◌, ◌++◌, length, map, Option, Some, None, true, false, refl, ap, sym, subst, ◌∙◌, append_assoc, append-nil, arith}
 use Rattle.std.specs.Prelude.{if◌then◌else◌, is_some, option_map}
 use Rattle.std.specs.List.{list_any}
 use Rattle.std.proofs.lemmas.List.{map-append}
 use Rattle.mt_edge.specs.Doors.{as_count}
-use Rattle.mt_engine.specs.History.{History}
 use Rattle.mt_connection.proofs.Runs.{any_none, true_false}
-use Rattle.mt_server.specs.Events.{AreWhole, DoorSide, EachNamed, Event, Events, GoesOn, Had, Passed, Round, Rounds, Woke, fatal, firsts, given_of, lasts, over_in, taken_of, turns_in}
+use Rattle.mt_server.specs.Events.{AreWhole, DoorSide, Event, Events, GoesOn, Had, Passed, Round, Rounds, Woke, fatal, firsts, given_of, lasts, over_in, taken_of, turns_in}
 
 -- ---- events so far, and others behind them
 
@@ -119,17 +118,3 @@ none_back (Some links) = ap Some (sym (append-nil links))
 -- no link was taken
 pub passed_nothing : {L : Type 0} (door : DoorSide L) → Passed door [] door
 passed_nothing door = record { whole = λ told. tt; taken = none_taken door.waiting; back = none_back door.given_back; count = omega arith; over = omega arith; faults = omega arith }
-
--- ---- what was told
-
--- what holds of all histories told so far, and of those behind them
-named_after : {L : Type 0} (P : History → Type 0) (xs ys : List (Round L)) → EachNamed P xs → EachNamed P ys → EachNamed P (xs ++ ys)
-named_after P [] ys h k = k
-named_after P (x ∷ xs) ys h k = (h.0, named_after P xs ys h.1 k)
-
-pub named_more : {L : Type 0} (P : History → Type 0) (xs ys : List (Event L)) → EachNamed P (turns_in xs) → EachNamed P (turns_in ys) → EachNamed P (turns_in (xs ++ ys))
-named_more {L} P xs ys h k = subst (λ (turns : List (Round L)). EachNamed P turns) (sym (turns_more xs ys)) (named_after P (turns_in xs) (turns_in ys) h k)
-
-pub named_weaker : {L : Type 0} (P Q : History → Type 0) (xs : List (Round L)) → ((named : History) → P named → Q named) → EachNamed P xs → EachNamed Q xs
-named_weaker P Q [] weaker h = tt
-named_weaker P Q (x ∷ xs) weaker h = (weaker x.named h.0, named_weaker P Q xs weaker h.1)

@@ -1,5 +1,6 @@
 pub mod Following
 pub mod Connecting
+pub mod Later
 pub mod Doors
 pub mod Going
 pub mod Overs

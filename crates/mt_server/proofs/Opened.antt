@@ -1,27 +1,27 @@
--- What an opening says of the files that were there.
-use Rattle.std.proofs.Common.{◌≡◌, ℕ, [], Option, Some, None, true, false, refl, ap, ◌∙◌, arith}
+-- What an opening says of the files that were there, and a run whose store was not opened.
+use Rattle.std.proofs.Common.{◌≡◌, ◌≤◌, ℕ, [], Option, Some, None, true, false, refl, ap, sym, ◌∙◌, arith}
 use Rattle.std.specs.Prelude.{is_some}
 use Rattle.std.specs.Option.{ForSome}
 use Rattle.std.specs.Result.{result_unwrap_or}
 use Rattle.mt_base.specs.Counts.{NeverFell}
 use Rattle.mt_disk.specs.CrashModel.{LeavesOnly}
 use Rattle.mt_disk.specs.Files.{Files}
-use Rattle.mt_disk.proofs.Moments.{joins, weakens}
+use Rattle.mt_disk.proofs.Moments.{joins, leaves_now, weakens}
 use Rattle.mt_engine.specs.Current.{EngineState, IsBetween, IsCurrent, Serves}
 use Rattle.mt_engine.specs.History.{Bytes, HasHistory, History}
-use Rattle.mt_engine.specs.Opening.{IsReadable}
+use Rattle.mt_engine.specs.Opening.{IsReadable, KeepsLogs}
 use Rattle.mt_engine.specs.declared.opening.Unreadable.{Unreadable}
 use Rattle.mt_log.specs.LogImage.{SameLog, log_size}
 use Rattle.mt_model.specs.State.{State}
-use Rattle.mt_connection.specs.Sides.{LinkSide, Sides}
+use Rattle.mt_connection.specs.Account.{account_side, no_tasks, told_time}
 use Rattle.mt_connection.specs.Transcript.{Setting}
-use Rattle.mt_connection.specs.declared.end.ConnectionEnd.{ConnectionEnd}
-use Rattle.mt_connection.proofs.Crashes.{all_of, between_all}
-use Rattle.mt_server.specs.Guarantees.{HasRun, HasSize}
-use Rattle.mt_server.specs.Events.{account_side, joined, size_of}
+use Rattle.mt_connection.proofs.Crashes.{all_of, between_all, told_later}
+use Rattle.mt_server.specs.Guarantees.{HasSize, Holds, IsDurable, scene}
+use Rattle.mt_server.specs.Events.{size_of}
 use Rattle.mt_server.specs.Statuses.{IsUnopened, NotOpened}
 use Rattle.mt_server.specs.declared.status.Status.{Status}
 use Rattle.mt_server.specs.declared.status.Status.TheVariants as status
+use Rattle.mt_server.proofs.Connecting.{holds, leaves}
 
 -- files with the same log have the same history
 pub same_history : (base : State Bytes) (h : History) (files c : Files) → SameLog files c → HasHistory base h files → HasHistory base h c
@@ -60,57 +60,6 @@ module _ {D : Type 0} (may_leave : D → Files → Type 0) (moment : D → ℕ) 
   crash_of_opening old new files base h has opening =
       weakens moment left_since old new (SameLog files) (IsBetween base h h) (λ c same. between_all base h h c (all_of h) (same_history base h files c same has)) opening
 
--- a session that began later, over a disk that had counted no more faults
-pub earlier_run : (s : Setting) (images : Files → Type 0) (later earlier : (Files → Type 0) → Type 0) (size : ℕ) (link : LinkSide) (h : History) (used before faults : ℕ) (end : ConnectionEnd) (new : Sides)
-    → NeverFell before faults → (s.knows ≡ true → later (IsBetween s.base h new.history) → earlier (IsBetween s.base h new.history))
-    → HasRun s images later size (joined link (account_side h used faults)) (status.Session end) new → HasRun s images earlier size (joined link (account_side h used before)) (status.Session end) new
-earlier_run s images later earlier size link h used before faults end new counted leaves run =
-    let c = run.transcript in
-    let x = c.served in
-    record {
-      named = run.named;
-      transcript = record {
-        served = record {
-          exchanges = x.exchanges;
-          middle = x.middle;
-          named = x.named;
-          ran = record {
-            run = x.ran.run;
-            history = x.ran.history;
-            used = x.ran.used;
-            source = x.ran.source;
-            sink = x.ran.sink;
-            missed = x.ran.missed;
-            counts = record { read = x.ran.counts.read; write = x.ran.counts.write; disk = omega (arith, counted, x.ran.counts.disk); spawn = x.ran.counts.spawn; waits = x.ran.counts.waits };
-          };
-          counts = x.counts;
-          ends = x.ends;
-        };
-        named_is = c.named_is;
-        told = c.told;
-        by_bytes = c.by_bytes;
-      };
-      durable_at_exit = run.durable_at_exit;
-      crash_prefix = λ knows. leaves knows (run.crash_prefix knows);
-      reply_implies_durable = run.reply_implies_durable;
-      grew = run.grew;
-      sized = run.sized;
-    }
-
--- a session whose store was not opened
-pub unserved_run : (s : Setting) (images : Files → Type 0) (at_each_moment : (Files → Type 0) → Type 0) (size : ℕ) (left got got' : Option Bytes) (r w w' : ℕ) (h : History) (used d d' : ℕ) (end : Status)
-    → IsUnopened end → NotOpened end got w d got' w' d' → (s.knows ≡ true → (c : Files) → images c → HasHistory s.base h c) → (s.knows ≡ true → at_each_moment (IsBetween s.base h h)) → (s.knows ≡ true → HasSize end used size)
-    → HasRun s images at_each_moment size (joined (record { left = left; got = got; read_faults = r; write_faults = w }) (account_side h used d)) end (joined (record { left = left; got = got'; read_faults = r; write_faults = w' }) (account_side h used d'))
-unserved_run s images at_each_moment size left got got' r w w' h used d d' (status.UnreadableLog why) is ends kept leaves sized =
-    record { named = h; transcript = (record { history = refl; used = refl; left = refl; ends = ends }, refl); durable_at_exit = kept; crash_prefix = leaves; reply_implies_durable = λ knows c image. record { history = h; has = kept knows c image; front = all_of h }; grew = all_of h; sized = sized }
-unserved_run s images at_each_moment size left got got' r w w' h used d d' status.OpeningFault is ends kept leaves sized =
-    record { named = h; transcript = (record { history = refl; used = refl; left = refl; ends = ends }, refl); durable_at_exit = kept; crash_prefix = leaves; reply_implies_durable = λ knows c image. record { history = h; has = kept knows c image; front = all_of h }; grew = all_of h; sized = sized }
-unserved_run s images at_each_moment size left got got' r w w' h used d d' status.OutOfMemory is ends kept leaves sized =
-    record { named = h; transcript = (record { history = refl; used = refl; left = refl; ends = ends }, refl); durable_at_exit = kept; crash_prefix = leaves; reply_implies_durable = λ knows c image. record { history = h; has = kept knows c image; front = all_of h }; grew = all_of h; sized = sized }
-unserved_run s images at_each_moment size left got got' r w w' h used d d' status.Usage is ends kept leaves sized = absurd ends
-unserved_run s images at_each_moment size left got got' r w w' h used d d' (status.Session end) is ends kept leaves sized = absurd is
-unserved_run s images at_each_moment size left got got' r w w' h used d d' (status.Serve end) is ends kept leaves sized = absurd is
-
 -- a disk that tells what it holds
 pub some_files : (o : Option Files) → is_some o ≡ true → (files : Files) × (o ≡ Some files)
 some_files None tells = absurd (cc)
@@ -123,3 +72,39 @@ sized_unopened status.OutOfMemory got w d got' w' d' used size is same = tt
 sized_unopened status.Usage got w d got' w' d' used size is same = absurd is
 sized_unopened (status.Session end) got w d got' w' d' used size is same = absurd is
 sized_unopened (status.Serve end) got w d got' w' d' used size is same = absurd is
+
+durable_unopened : (end : Status) (base : State Bytes) (whole : History) (c : Files) → IsUnopened end → HasHistory base whole c → IsDurable end base whole c
+durable_unopened (status.Session end) base whole c is has = absurd is
+durable_unopened (status.Serve end) base whole c is has = absurd is
+durable_unopened end base whole c is has = has
+
+-- what a run leaves whose store was not opened
+module _ {D : Type 0} (seen : D → Option Files) (may_leave : D → Files → Type 0) (moment : D → ℕ) (left_since : D → ℕ → Files → Type 0) (old new : D)
+    (counts_now : (t : ℕ) (c : Files) → t ≤ moment new → may_leave new c → left_since new t c) (seen_is_left : ForSome (seen new) (may_leave new)) where
+  pub opening_holds : (s : Setting) (h : History) (d d' asked : ℕ) (end : Status) (got : Option Bytes) (w : ℕ) (got' : Option Bytes) (w' : ℕ) → s.knows ≡ is_some (seen old) → ForSome (seen old) (HasHistory s.base h)
+      → ForSome (seen old) (λ files. LeavesOnly moment left_since old new (SameLog files)) → IsUnopened end → NotOpened end got w d got' w' d' → NeverFell d d'
+      → ((why : Unreadable) → end ≡ status.UnreadableLog why → ForSome (seen old) (λ files. KeepsLogs seen may_leave new files))
+      → Holds s (scene seen may_leave left_since old (account_side h (size_of (seen old)) d (told_time (is_some (seen old)) (moment old)) asked no_tasks)) end
+      (scene seen may_leave left_since new (account_side h (size_of (seen old)) d' (told_time (is_some (seen old)) (moment new)) asked no_tasks))
+  opening_holds s h d d' asked end got w got' w' same has any_moment is ends fell refused =
+      holds s _ end _ (all_of h)
+      (λ knows c image.
+      let there = some_files (seen old) (sym same ∙ knows) in
+      durable_unopened end s.base h c is (same_history s.base h there.0 c (leaves_now moment left_since may_leave old new (SameLog there.0) (any_moment there.0 there.1) counts_now c image) (has there.0 there.1)))
+      (λ knows.
+      let there = some_files (seen old) (sym same ∙ knows) in
+      sized_unopened end got w d got' w' d' (size_of (seen old)) (size_of (seen new)) ends
+      (λ why told.
+      let kept = refused why told there.0 there.1 in
+      sym (kept_size (seen old) (seen new) (ap is_some kept.seen_is ∙ sym (ap is_some there.1)) (λ files is now now_is. leaves_now moment left_since may_leave old new (SameLog files) (any_moment files is) counts_now now (seen_is_left now now_is)))))
+      (λ knows.
+      leaves moment left_since old new (IsBetween s.base h h) (is_some (seen old))
+      (λ told. let there = some_files (seen old) told in crash_of_opening may_leave moment left_since old new there.0 s.base h (has there.0 there.1) (any_moment there.0 there.1)) (sym same ∙ knows))
+      (record {
+        disk = fell;
+        time = told_later (is_some (seen old)) (moment old) (moment new) (λ told. let there = some_files (seen old) told in (any_moment there.0 there.1).later);
+        asked = omega arith;
+        spawn = omega arith;
+        waits = omega arith;
+        company = omega arith;
+      })

@@ -1,66 +1,81 @@
 -- A serve that began before its store was opened, and one whose store was not opened.
-use Rattle.std.proofs.Common.{◌≡◌, ℕ, [], Option, Bool, true, false, refl, subst, arith}
+use Rattle.std.proofs.Common.{◌≡◌, ℕ, [], Option, Bool, true, false, refl, sym, subst, ◌∙◌, arith}
 use Rattle.mt_base.specs.Counts.{NeverFell}
+use Rattle.mt_base.specs.Lists.{IsPrefixOf}
 use Rattle.mt_disk.specs.Files.{Files}
 use Rattle.mt_engine.specs.Current.{IsBetween}
-use Rattle.mt_engine.specs.History.{Bytes, HasHistory, History}
+use Rattle.mt_engine.specs.History.{Bytes, History}
 use Rattle.mt_engine.specs.declared.opening.Unreadable.{Unreadable}
 use Rattle.mt_model.specs.State.{State}
+use Rattle.mt_connection.specs.Account.{account_side, no_tasks, told_time}
 use Rattle.mt_connection.specs.Sides.{LinkSide}
 use Rattle.mt_connection.specs.Transcript.{Setting, setting}
-use Rattle.mt_connection.proofs.Crashes.{all_of}
-use Rattle.mt_server.specs.Guarantees.{HasServed, HasSize}
+use Rattle.mt_connection.proofs.Runs.{no_count_fell}
+use Rattle.mt_server.specs.Guarantees.{HasServed, Holds, IsOpened, Leaves, Scene, Shop, shop, shop_scene}
 use Rattle.mt_server.specs.Lines.{SaysLine, line_of}
-use Rattle.mt_server.specs.Events.{AccountSide, DoorSide, account_side}
+use Rattle.mt_server.specs.Events.{DoorSide, IsEnd, Passed}
 use Rattle.mt_server.specs.Statuses.{ByDisk, ByDoor, IsBegun, IsOfServe, IsUnopened, NotOpened}
 use Rattle.mt_server.specs.declared.status.ServeEnd.{ServeEnd}
 use Rattle.mt_server.specs.declared.status.ServeEnd.TheVariants as serving
 use Rattle.mt_server.specs.declared.status.Status.{Status}
 use Rattle.mt_server.specs.declared.status.Status.TheVariants as status
-use Rattle.mt_server.proofs.Following.{passed_nothing}
+use Rattle.mt_server.proofs.Connecting.{holds}
 
 module _ {L : Type 0} (side : L → LinkSide) (stays : L → L → Type 0) where
-  -- a serve that began later, over a disk that had counted no more faults
-  pub earlier_serve : (s : Setting) (wanted : ℕ) (images : Files → Type 0) (later earlier : (Files → Type 0) → Type 0) (size : ℕ) (h : History) (used before faults : ℕ) (door : DoorSide L) (end : ServeEnd) (new : AccountSide) (door' : DoorSide L)
-      → NeverFell before faults → (s.knows ≡ true → later (IsBetween s.base h new.history) → earlier (IsBetween s.base h new.history))
-      → HasServed side stays s wanted images later size (account_side h used faults) door (status.Serve end) new door' → HasServed side stays s wanted images earlier size (account_side h used before) door (status.Serve end) new door'
-  earlier_serve s wanted images later earlier size h used before faults door end new door' counted leaves run =
+  -- a serve that began earlier, with the opening of its store
+  pub earlier_serve : (s : Setting) (wanted : ℕ) (old mid new : Scene (Shop L)) (end : ServeEnd) → IsOpened old.side.account mid.side.account → mid.side.door ≡ old.side.door
+      → (s.knows ≡ true → Leaves old.since new.since old.side.account.time new.side.account.time (IsBetween s.base old.side.account.history new.side.account.history))
+      → HasServed side stays s wanted mid (status.Serve end) new → HasServed side stays s wanted old (status.Serve end) new
+  earlier_serve s wanted old mid new end opened same crash run =
       let went = run.transcript.0 in
-      let opened = went.is_opened in
+      let later = went.is_opened in
+      let left = run.holds in
       record {
         events = run.events;
-        transcript = (record { opened = went.opened; is_opened = record { history = opened.history; used = opened.used; tasks = opened.tasks; counted = omega (arith, counted, opened.counted) }; led = went.led; whole = went.whole }, run.transcript.1);
-        links = run.links;
-        durable_at_exit = run.durable_at_exit;
-        crash_prefix = λ knows. leaves knows (run.crash_prefix knows);
-        reply_implies_durable = run.reply_implies_durable;
-        grew = run.grew;
-        sized = run.sized;
+        transcript = (
+          record {
+            opened = went.opened;
+            is_opened = record {
+              history = later.history ∙ opened.history;
+              used = later.used ∙ opened.used;
+              tasks = later.tasks ∙ opened.tasks;
+              asked = later.asked ∙ opened.asked;
+              counts = no_count_fell old.side.account mid.side.account went.opened opened.counts later.counts;
+            };
+            led = went.led;
+            whole = went.whole;
+          },
+          subst (λ (door : DoorSide L). IsEnd wanted end run.events door new.side.door) same run.transcript.1,
+        );
+        links = subst (λ (door : DoorSide L). Passed door run.events new.side.door) same run.links;
+        holds = holds s (shop_scene old) (status.Serve end) (shop_scene new) (subst (λ (h : History). IsPrefixOf h new.side.account.history) opened.history (left.added, sym left.grew)) left.durable_at_exit left.sized crash
+            (no_count_fell old.side.account mid.side.account new.side.account opened.counts left.counts);
       }
 
   -- the same serve, in the setting and over the log at entry
-  pub served_here : (gives : ℕ → Type 0) (login : Bytes) (base : State Bytes) (knows knows' : Bool) (limit limit' used used' : ℕ) → knows' ≡ knows → limit' ≡ limit → used' ≡ used
-      → (wanted : ℕ) (images : Files → Type 0) (at_each_moment : (Files → Type 0) → Type 0) (size : ℕ) (h : History) (faults : ℕ) (door : DoorSide L) (end : Status) (new : AccountSide) (door' : DoorSide L)
-      → HasServed side stays (setting false knows' gives login limit' base) wanted images at_each_moment size (account_side h used' faults) door end new door'
-      → HasServed side stays (setting false knows gives login limit base) wanted images at_each_moment size (account_side h used faults) door end new door'
-  served_here gives login base knows knows' limit limit' used used' same_knows same_limit same_used wanted images at_each_moment size h faults door end new door' run =
-      subst (λ (b : Bool). HasServed side stays (setting false b gives login limit base) wanted images at_each_moment size (account_side h used faults) door end new door') same_knows
-      (subst (λ (n : ℕ). HasServed side stays (setting false knows' gives login n base) wanted images at_each_moment size (account_side h used faults) door end new door') same_limit
-      (subst (λ (n : ℕ). HasServed side stays (setting false knows' gives login limit' base) wanted images at_each_moment size (account_side h n faults) door end new door') same_used run))
+  pub served_here : (moments : ℕ → ℕ → Type 0) (login : Bytes) (base : State Bytes) (knows knows' : Bool) (limit limit' used used' : ℕ) → knows' ≡ knows → limit' ≡ limit → used' ≡ used
+      → (wanted : ℕ) (images past_images : Files → Type 0) (since past : ℕ → Files → Type 0) (size size' : ℕ) (h : History) (d m asked : ℕ) (door : DoorSide L) (end : Status) (k : History) (used2 d2 m2 asked2 : ℕ) (door2 : DoorSide L)
+      → HasServed side stays (setting false knows' moments login limit' base) wanted (record { side = shop (account_side h used' d (told_time knows' m) asked no_tasks) door; images = past_images; since = past; size = size' }) end
+      (record { side = shop (account_side k used2 d2 (told_time knows' m2) asked2 no_tasks) door2; images = images; since = since; size = size })
+      → HasServed side stays (setting false knows moments login limit base) wanted (record { side = shop (account_side h used d (told_time knows m) asked no_tasks) door; images = past_images; since = past; size = size' }) end
+      (record { side = shop (account_side k used2 d2 (told_time knows m2) asked2 no_tasks) door2; images = images; since = since; size = size })
+  served_here moments login base knows knows' limit limit' used used' same_knows same_limit same_used wanted images past_images since past size size' h d m asked door end k used2 d2 m2 asked2 door2 run =
+      subst (λ (b : Bool). HasServed side stays (setting false b moments login limit base) wanted (record { side = shop (account_side h used d (told_time b m) asked no_tasks) door; images = past_images; since = past; size = size' }) end
+      (record { side = shop (account_side k used2 d2 (told_time b m2) asked2 no_tasks) door2; images = images; since = since; size = size })) same_knows
+      (subst (λ (n : ℕ). HasServed side stays (setting false knows' moments login n base) wanted (record { side = shop (account_side h used d (told_time knows' m) asked no_tasks) door; images = past_images; since = past; size = size' }) end
+      (record { side = shop (account_side k used2 d2 (told_time knows' m2) asked2 no_tasks) door2; images = images; since = since; size = size })) same_limit
+      (subst (λ (n : ℕ). HasServed side stays (setting false knows' moments login limit' base) wanted (record { side = shop (account_side h n d (told_time knows' m) asked no_tasks) door; images = past_images; since = past; size = size' }) end
+      (record { side = shop (account_side k used2 d2 (told_time knows' m2) asked2 no_tasks) door2; images = images; since = since; size = size })) same_used run))
 
   -- a serve whose store was not opened
-  pub unserved_serve : (s : Setting) (wanted : ℕ) (images : Files → Type 0) (at_each_moment : (Files → Type 0) → Type 0) (size : ℕ) (h : History) (used d d' : ℕ) (door : DoorSide L) (end : Status)
-      → IsUnopened end → IsOfServe end → (s.knows ≡ true → (c : Files) → images c → HasHistory s.base h c) → (s.knows ≡ true → at_each_moment (IsBetween s.base h h)) → (s.knows ≡ true → HasSize end used size)
-      → HasServed side stays s wanted images at_each_moment size (account_side h used d) door end (account_side h used d') door
-  unserved_serve s wanted images at_each_moment size h used d d' door (status.UnreadableLog why) is of kept leaves sized =
-      record { events = []; transcript = (refl, refl, refl); links = passed_nothing door; durable_at_exit = kept; crash_prefix = leaves; reply_implies_durable = λ knows c image. tt; grew = all_of h; sized = sized }
-  unserved_serve s wanted images at_each_moment size h used d d' door status.OpeningFault is of kept leaves sized =
-      record { events = []; transcript = (refl, refl, refl); links = passed_nothing door; durable_at_exit = kept; crash_prefix = leaves; reply_implies_durable = λ knows c image. tt; grew = all_of h; sized = sized }
-  unserved_serve s wanted images at_each_moment size h used d d' door status.OutOfMemory is of kept leaves sized =
-      record { events = []; transcript = (refl, refl, refl); links = passed_nothing door; durable_at_exit = kept; crash_prefix = leaves; reply_implies_durable = λ knows c image. tt; grew = all_of h; sized = sized }
-  unserved_serve s wanted images at_each_moment size h used d d' door status.Usage is of kept leaves sized = absurd of
-  unserved_serve s wanted images at_each_moment size h used d d' door (status.Session end) is of kept leaves sized = absurd is
-  unserved_serve s wanted images at_each_moment size h used d d' door (status.Serve end) is of kept leaves sized = absurd is
+  pub unserved_serve : (s : Setting) (wanted : ℕ) (old new : Scene (Shop L)) (end : Status) → IsUnopened end → IsOfServe end → Passed old.side.door [] new.side.door → new.side.account.history ≡ old.side.account.history → new.side.account.used ≡ old.side.account.used
+      → Holds s (shop_scene old) end (shop_scene new) → HasServed side stays s wanted old end new
+  unserved_serve s wanted old new (status.UnreadableLog why) is of links history used left = record { events = []; transcript = (refl, history, used); links = links; holds = left }
+  unserved_serve s wanted old new status.OpeningFault is of links history used left = record { events = []; transcript = (refl, history, used); links = links; holds = left }
+  unserved_serve s wanted old new status.OutOfMemory is of links history used left = record { events = []; transcript = (refl, history, used); links = links; holds = left }
+  unserved_serve s wanted old new status.Usage is of links history used left = absurd of
+  unserved_serve s wanted old new (status.Session end) is of links history used left = absurd is
+  unserved_serve s wanted old new (status.Serve end) is of links history used left = absurd is
 
 -- what the status says where the store was not opened
 pub unopened_serve : (end : Status) (got : Option Bytes) (w d : ℕ) (got' : Option Bytes) (w' d' : ℕ) → NotOpened end got w d got' w' d' → IsOfServe end × ByDisk end d d' × ((wanted t f t' f' : ℕ) → ByDoor end wanted t f t' f')

@@ -1,5 +1,5 @@
 -- What the number of a status says.
-use Rattle.std.proofs.Common.{◌≡◌, ◌≢◌, ◌<◌, ◌+◌, ℕ, Option, inl, inr, ◌⊎◌, refl, sym, subst, arith}
+use Rattle.std.proofs.Common.{◌≡◌, ◌≢◌, ◌<◌, ◌+◌, ℕ, List, Option, Ok, Err, inl, inr, ◌⊎◌, refl, sym, subst, ◌∙◌, arith}
 use Rattle.std.specs.Prelude.{IfSome}
 use Rattle.std.proofs.lemmas.Option.{IfSome_then}
 use Rattle.mt_base.specs.Counts.{Rose}
@@ -9,7 +9,10 @@ use Rattle.mt_connection.specs.Outcomes.{ByEnd, Outcome, OutcomeAt}
 use Rattle.mt_connection.specs.declared.end.ConnectionEnd.{ConnectionEnd}
 use Rattle.mt_connection.specs.declared.end.ConnectionEnd.TheVariants as ended
 use Rattle.mt_connection.proofs.Completeness.{one_outcome}
-use Rattle.mt_server.specs.Statuses.{Asked, ByBytes, ByDisk, ByDoor, ByLink, IsBegun, IsBroken, IsOfServe, IsOfSession, IsSilent, IsUnopened, code_of, most_messages}
+use Rattle.mt_settings.specs.Words.{settings_of}
+use Rattle.mt_settings.specs.declared.fault.UsageFault.{UsageFault}
+use Rattle.mt_settings.specs.declared.settings.Settings.{Settings}
+use Rattle.mt_server.specs.Statuses.{Asked, ByBytes, ByDisk, ByDoor, ByLink, IsBegun, IsBroken, IsOfServe, IsOfSession, IsSilent, IsUnopened, WantsService, code_of, most_messages}
 use Rattle.mt_server.specs.declared.status.ServeEnd.TheVariants as serving
 use Rattle.mt_server.specs.declared.status.Status.{Status}
 use Rattle.mt_server.specs.declared.status.Status.TheVariants as status
@@ -91,13 +94,20 @@ is_silent (status.Session end) closed no_one no_two = closed
 is_silent (status.Serve end) closed no_one no_two = closed
 is_silent s closed no_one no_two = tt
 
-pub unopened_numbers : (s : Status) → IsUnopened s → (code_of s ≡ 1) ⊎ (code_of s ≡ 2) ⊎ (code_of s ≡ 5) ⊎ (code_of s ≡ 8)
-unopened_numbers status.Usage closed = inl refl
-unopened_numbers (status.UnreadableLog why) closed = inr (inl refl)
-unopened_numbers status.OpeningFault closed = inr (inr (inl refl))
-unopened_numbers status.OutOfMemory closed = inr (inr (inr refl))
-unopened_numbers (status.Session end) closed = absurd closed
-unopened_numbers (status.Serve end) closed = absurd closed
+pub unopened_numbers : (s : Status) → IsUnopened s → code_of s ≢ 1 → (code_of s ≡ 2) ⊎ (code_of s ≡ 5) ⊎ (code_of s ≡ 8)
+unopened_numbers status.Usage closed no_one = absurd (no_one refl)
+unopened_numbers (status.UnreadableLog why) closed no_one = inl refl
+unopened_numbers status.OpeningFault closed no_one = inr (inl refl)
+unopened_numbers status.OutOfMemory closed no_one = inr (inr refl)
+unopened_numbers (status.Session end) closed no_one = absurd closed
+unopened_numbers (status.Serve end) closed no_one = absurd closed
+
+-- words that ask for a service are not refused
+wanted_read : (words : List Bytes) (settings : Settings) → WantsService words settings → settings_of words ≡ Ok settings
+wanted_read words settings wants = elim wants [ inl session ↦ session.0 | inr serve ↦ serve.1.1 ]
+
+pub not_usage : (words : List Bytes) (settings : Settings) → WantsService words settings → (s : Status) → (s ≡ status.Usage → (fault : UsageFault) × (settings_of words ≡ Err fault)) → code_of s ≢ 1
+not_usage words settings wants s usage is = let wrong = usage (is_usage s is) in let both : Ok settings ≡ Err wrong.0 = sym (wanted_read words settings wants) ∙ wrong.1 in absurd (cc)
 
 -- ---- a session by its bytes
 

@@ -1,15 +1,7 @@
 -- How a turn of a link ends the serving, what it counts, and what a crash leaves.
-use Rattle.std.proofs.Common.{◌≡◌, ◌⊎◌, ◌<◌, ◌≤◌, ◌+◌, ℕ, Bool, true, false, Option, Some, inl, inr, refl, ap, sym, subst, arith}
+use Rattle.std.proofs.Common.{◌≡◌, ◌⊎◌, ◌<◌, ◌≤◌, ◌+◌, ℕ, Bool, true, false, Some, inl, inr, refl, ap, sym, subst, arith}
 use Rattle.mt_base.specs.Counts.{NeverFell, Rose}
-use Rattle.mt_base.specs.Lists.{IsPrefixOf}
-use Rattle.mt_disk.specs.CrashModel.{LeavesOnly}
-use Rattle.mt_disk.specs.Files.{Files}
-use Rattle.mt_disk.proofs.Moments.{joins}
 use Rattle.mt_edge.specs.Doors.{as_count}
-use Rattle.mt_engine.specs.Current.{IsBetween}
-use Rattle.mt_engine.specs.History.{Bytes, History}
-use Rattle.mt_model.specs.State.{State}
-use Rattle.mt_connection.proofs.Crashes.{between_from, between_to}
 use Rattle.mt_connection.specs.declared.end.ConnectionEnd.{ConnectionEnd}
 use Rattle.mt_connection.specs.declared.end.ConnectionEnd.TheVariants as ended
 use Rattle.mt_server.specs.Events.{end_breaks}
@@ -46,9 +38,3 @@ door_over end e wanted t f t' f' is =
 pub within : (first fresh : Bool) (t t' wanted : ℕ) → t ≤ wanted → t' ≡ t + as_count first → (first ≡ true → fresh ≡ true) → (fresh ≡ true → t < wanted) → t' ≤ wanted
 within true fresh t t' wanted few is asked open_ = let room = open_ (asked refl) in omega (arith, room, is)
 within false fresh t t' wanted few is asked open_ = omega (arith, few, is)
-
--- a crash at any moment of one turn more
-pub crash_more : {D : Type 0} (moment : D → ℕ) (left_since : D → ℕ → Files → Type 0) (old mid new : D) (base : State Bytes) (h m k : History) → IsPrefixOf h m → IsPrefixOf m k
-    → LeavesOnly moment left_since old mid (IsBetween base h m) → LeavesOnly moment left_since mid new (IsBetween base m k) → LeavesOnly moment left_since old new (IsBetween base h k)
-crash_more moment left_since old mid new base h m k grew more first second =
-    joins moment left_since old mid new (IsBetween base h m) (IsBetween base m k) (IsBetween base h k) first second (λ c b. between_to base h m k c more b) (λ c b. between_from base h m k c grew b)

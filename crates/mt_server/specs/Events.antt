@@ -4,57 +4,28 @@ use Rattle.std.specs.List.{list_any}
 use Rattle.mt_base.specs.Counts.{Rose, NeverFell}
 use Rattle.mt_disk.specs.Files.{Files}
 use Rattle.mt_edge.specs.Doors.{as_count}
-use Rattle.mt_engine.specs.History.{Bytes, History}
 use Rattle.mt_log.specs.LogImage.{log_size, payloads_of}
-use Rattle.mt_connection.specs.Sides.{LinkSide, Sides, Tasks, no_tasks}
+use Rattle.mt_connection.specs.Account.{AccountSide}
+use Rattle.mt_connection.specs.Sides.{LinkSide}
 use Rattle.mt_connection.specs.Transcript.{Setting}
 use Rattle.mt_connection.specs.declared.end.ConnectionEnd.{ConnectionEnd}
 use Rattle.mt_connection.specs.declared.end.ConnectionEnd.TheVariants as ended
 use Rattle.mt_server.specs.declared.status.ServeEnd.{ServeEnd}
 use Rattle.mt_server.specs.declared.status.ServeEnd.TheVariants as serving
 
--- what a connection leaves to the next one: the account, and the counts that are no link's
-pub record AccountSide : Type 0 where
-  -- the commands behind the base
-  pub history : History
-  -- the bytes of the log, where the disk tells what it holds; else 0
-  pub used : ℕ
-  pub disk_faults : ℕ
-  pub tasks : Tasks
-
-abbrev pub account_side : History → ℕ → ℕ → AccountSide
-account_side history used disk_faults = record { history = history; used = used; disk_faults = disk_faults; tasks = no_tasks }
-
-abbrev pub link_side : (left got : Option Bytes) (read_faults write_faults : ℕ) → LinkSide
-link_side left got read_faults write_faults = record { left = left; got = got; read_faults = read_faults; write_faults = write_faults }
-
--- a link before an account
-abbrev pub joined : LinkSide → AccountSide → Sides
-joined link account = record {
-  left = link.left;
-  got = link.got;
-  history = account.history;
-  used = account.used;
-  read_faults = link.read_faults;
-  write_faults = link.write_faults;
-  disk_faults = account.disk_faults;
-  tasks = account.tasks;
-}
-
 -- the bytes of the log in these files, its closed gate among them, where the disk tells them
 abbrev pub size_of : Option Files → ℕ
 size_of None = 0
 size_of (Some files) = log_size (payloads_of files)
 
--- One turn of a link: as it was taken and as it was given back; whether this was its first turn, and whether it is over; how the turn
--- ended, and the history of which its replies have told. A link that is not over may have another turn.
+-- One turn of a link: as it was taken and as it was given back; whether this was its first turn, and whether it is over; and how the
+-- turn ended. A link that is not over may have another turn.
 pub record Round (L : Type 0) : Type 0 where
   pub taken : L
   pub given : L
   pub first : Bool
   pub over : Bool
   pub end : ConnectionEnd
-  pub named : History
 
 -- what came at the door
 pub data Event (L : Type 0) : Type 0 where
@@ -131,15 +102,6 @@ module _ {L : Type 0} where
   abbrev pub over_in : List (Round L) → List L
   over_in [] = []
   over_in (x ∷ xs) = if x.over then x.given ∷ over_in xs else over_in xs
-
-  -- this holds of what each of these turns has told of
-  abbrev pub EachNamed : (History → Type 0) → List (Round L) → Type 0
-  EachNamed P [] = Unit {0}
-  EachNamed P (x ∷ xs) = P x.named × EachNamed P xs
-
--- how a link is read from and written to
-abbrev pub side_of : {L : Type 0} → (left got : L → Option Bytes) (read_faults write_faults : L → ℕ) → L → LinkSide
-side_of left got read_faults write_faults link = record { left = left link; got = got link; read_faults = read_faults link; write_faults = write_faults link }
 
 -- the same setting on this link
 abbrev pub on_link : Setting → LinkSide → Setting

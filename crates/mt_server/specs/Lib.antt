@@ -2,3 +2,4 @@ pub mod Lines
 pub mod Statuses
 pub mod Events
 pub mod Guarantees
+pub mod Visiting

@@ -1,20 +1,15 @@
 -- How a run ended, and what each status says.
-use Rattle.std.specs.Prelude.{◌≡◌, ◌⊎◌, ◌+◌, ◌<◌, ℕ, Bool, true, List, Option, Some, None, Ok}
-use Rattle.mt_base.specs.Counts.{Rose, NeverFell}
-use Rattle.mt_edge.specs.Doors.{as_count}
+use Rattle.std.specs.Prelude.{◌≡◌, ◌⊎◌, ◌+◌, ◌<◌, ℕ, Bool, true, List, Option, Ok}
+use Rattle.mt_base.specs.Counts.{Rose}
 use Rattle.mt_engine.specs.History.{Bytes}
 use Rattle.mt_engine.specs.declared.opening.OpenEnd.{OpenEnd}
 use Rattle.mt_engine.specs.declared.opening.OpenEnd.TheVariants as opening
 use Rattle.mt_connection.specs.Outcomes.{ByEnd, Outcome}
-use Rattle.mt_connection.specs.declared.end.ConnectionEnd.{ConnectionEnd}
 use Rattle.mt_connection.specs.declared.end.ConnectionEnd.TheVariants as ended
 use Rattle.mt_settings.specs.Words.{settings_of}
 use Rattle.mt_settings.specs.declared.settings.Mode.TheVariants as mode
 use Rattle.mt_settings.specs.declared.settings.Settings.{Settings}
 use Rattle.mt_server.specs.Lines.{SaysLine, line_of}
-use Rattle.mt_server.specs.declared.came.Came.{Came}
-use Rattle.mt_server.specs.declared.came.Came.TheVariants as came
-use Rattle.mt_server.specs.declared.status.ServeEnd.{ServeEnd}
 use Rattle.mt_server.specs.declared.status.ServeEnd.TheVariants as serving
 use Rattle.mt_server.specs.declared.status.Status.{Status}
 use Rattle.mt_server.specs.declared.status.Status.TheVariants as status
@@ -26,6 +21,10 @@ WantsSession words settings = (settings_of words ≡ Ok settings) × (settings.m
 -- the words ask for so many connections to be served, with these settings
 abbrev pub WantsServe : List Bytes → Settings → ℕ → Type 0
 WantsServe words settings connections = (listen : Bytes) × (settings_of words ≡ Ok settings) × (settings.mode ≡ mode.Serve connections listen)
+
+-- the words ask for a session or a serve, with these settings
+abbrev pub WantsService : List Bytes → Settings → Type 0
+WantsService words settings = WantsSession words settings ⊎ ((connections : ℕ) × WantsServe words settings connections)
 
 -- as many messages as one connection has
 abbrev pub most_messages : ℕ
@@ -119,24 +118,6 @@ ByDisk (status.Session ended.Disk) d d' = Rose d d'
 ByDisk (status.Serve serving.Disk) d d' = Rose d d'
 ByDisk status.OpeningFault d d' = Rose d d'
 ByDisk _ d d' = Unit {0}
-
--- what a call at the door counts: a link that had its turn, none, or a fault
-abbrev pub TurnCounts : Came → (taken over faults taken' over' faults' : ℕ) → Type 0
-TurnCounts (came.Had first last end) t o f t' o' f' = (t' ≡ t + as_count first) × (o' ≡ o + as_count last) × NeverFell f f'
-TurnCounts came.Woke t o f t' o' f' = (t' ≡ t) × (o' ≡ o) × NeverFell f f'
-TurnCounts came.NoLink t o f t' o' f' = (t' ≡ t) × Rose f f'
-
--- a new link comes, and the door fails, only where a new link was asked for
-abbrev pub IsAskedFor : (fresh : Bool) → Came → Type 0
-IsAskedFor fresh (came.Had first last end) = first ≡ true → fresh ≡ true
-IsAskedFor fresh came.Woke = Unit {0}
-IsAskedFor fresh came.NoLink = fresh ≡ true
-
--- how the turn of the link that came ended
-abbrev pub end_of : Came → Option ConnectionEnd
-end_of (came.Had first last end) = Some end
-end_of came.Woke = None
-end_of came.NoLink = None
 
 -- all links that were asked for were taken where that is the status, and fewer, with a counted fault of the door, on the status of none
 abbrev pub ByDoor : Status → (wanted taken faults taken' faults' : ℕ) → Type 0

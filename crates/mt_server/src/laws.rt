@@ -3,23 +3,26 @@ ghost use Rattle.std.specs.Prelude.{◌≡◌, ◌++◌, Bool, false, ℕ, List,
 ghost use Rattle.std.specs.List.{list_any};
 ghost use Rattle.mt_model.specs.State.{State};
 ghost use Rattle.mt_engine.specs.History.{Bytes};
-ghost use Rattle.mt_connection.specs.Transcript.{at_any_call, setting};
-ghost use Rattle.mt_server.specs.Guarantees.{HasRun, HasServed, Visited};
-ghost use Rattle.mt_server.specs.Events.{AccountSide, AreWhole, DoorSide, Event, Events, GoesOn, Had, NothingFollows, Passed, Round, Rounds, fatal, firsts, given_of, lasts, over_in, side_of, turns_in};
+ghost use Rattle.mt_connection.specs.Account.{AccountSide};
+ghost use Rattle.mt_connection.specs.Sides.{side_of};
+ghost use Rattle.mt_connection.specs.Transcript.{setting};
+ghost use Rattle.mt_server.specs.Guarantees.{Visited};
+ghost use Rattle.mt_server.specs.Events.{AreWhole, DoorSide, Event, Events, GoesOn, Had, NothingFollows, Passed, Round, Rounds, fatal, firsts, given_of, lasts, over_in, turns_in};
 
+use mt_disk::Disk;
 use mt_edge::{Both, Clock};
 
 /// Events after events, none of which broke, are events, and so are the links of a door; rounds after rounds are rounds. Where each link
 /// had one turn, as many were taken and are over as came, and each was given back.
-pub fn events_go_on<L: Both, C: Clock>()
-    ensures events { (rule : C.Rule) (knows : Bool) (login : Bytes) (limit : ℕ) (base : State Bytes) (old mid new : AccountSide) (xs ys : List (Event L)) → GoesOn xs
-        → Events (Visited (side_of L.left L.got L.read_faults L.write_faults) L.stays (setting false knows (at_any_call C.gives rule) login limit base)) NothingFollows old xs mid
-        → Events (Visited (side_of L.left L.got L.read_faults L.write_faults) L.stays (setting false knows (at_any_call C.gives rule) login limit base)) NothingFollows mid ys new
-        → Events (Visited (side_of L.left L.got L.read_faults L.write_faults) L.stays (setting false knows (at_any_call C.gives rule) login limit base)) NothingFollows old (xs ++ ys) new }
-    ensures rounds { (rule : C.Rule) (knows : Bool) (login : Bytes) (limit : ℕ) (base : State Bytes) (old mid new : AccountSide) (xs ys : List (Round L)) → list_any (λ x. fatal (Had x)) xs ≡ false
-        → Rounds (Visited (side_of L.left L.got L.read_faults L.write_faults) L.stays (setting false knows (at_any_call C.gives rule) login limit base)) NothingFollows old xs mid
-        → Rounds (Visited (side_of L.left L.got L.read_faults L.write_faults) L.stays (setting false knows (at_any_call C.gives rule) login limit base)) NothingFollows mid ys new
-        → Rounds (Visited (side_of L.left L.got L.read_faults L.write_faults) L.stays (setting false knows (at_any_call C.gives rule) login limit base)) NothingFollows old (xs ++ ys) new }
+pub fn events_go_on<D: Disk, L: Both, C: Clock>()
+    ensures events { (disk : D) (rule : C.Rule) (knows : Bool) (login : Bytes) (limit : ℕ) (base : State Bytes) (old mid new : AccountSide) (xs ys : List (Event L)) → GoesOn xs
+        → Events (Visited (side_of L.left L.got L.read_faults L.write_faults) L.stays (setting false knows (C.gives rule) login limit base) (D.left_since disk)) NothingFollows old xs mid
+        → Events (Visited (side_of L.left L.got L.read_faults L.write_faults) L.stays (setting false knows (C.gives rule) login limit base) (D.left_since disk)) NothingFollows mid ys new
+        → Events (Visited (side_of L.left L.got L.read_faults L.write_faults) L.stays (setting false knows (C.gives rule) login limit base) (D.left_since disk)) NothingFollows old (xs ++ ys) new }
+    ensures rounds { (disk : D) (rule : C.Rule) (knows : Bool) (login : Bytes) (limit : ℕ) (base : State Bytes) (old mid new : AccountSide) (xs ys : List (Round L)) → list_any (λ x. fatal (Had x)) xs ≡ false
+        → Rounds (Visited (side_of L.left L.got L.read_faults L.write_faults) L.stays (setting false knows (C.gives rule) login limit base) (D.left_since disk)) NothingFollows old xs mid
+        → Rounds (Visited (side_of L.left L.got L.read_faults L.write_faults) L.stays (setting false knows (C.gives rule) login limit base) (D.left_since disk)) NothingFollows mid ys new
+        → Rounds (Visited (side_of L.left L.got L.read_faults L.write_faults) L.stays (setting false knows (C.gives rule) login limit base) (D.left_since disk)) NothingFollows old (xs ++ ys) new }
     ensures whole { (es : List (Event L)) → AreWhole es → (firsts (turns_in es) ≡ length es) × (lasts (turns_in es) ≡ length es) × (over_in (turns_in es) ≡ map given_of (turns_in es)) }
     ensures links { (old mid new : DoorSide L) (xs ys : List (Event L)) → Passed old xs mid → Passed mid ys new → Passed old (xs ++ ys) new }
 {}

@@ -8,14 +8,16 @@ ghost use Rattle.mt_model.specs.State.{State};
 ghost use Rattle.mt_engine.specs.History.{Bytes, HasHistory, History};
 ghost use Rattle.mt_engine.specs.Opening.{IsReadable, IsRefused, KeepsLogs};
 ghost use Rattle.mt_engine.specs.declared.opening.Unreadable.{Unreadable};
-ghost use Rattle.mt_connection.specs.Transcript.{at_any_call, setting};
+ghost use Rattle.mt_connection.specs.Account.{account_side, no_tasks, told_time};
+ghost use Rattle.mt_connection.specs.Sides.{joined, link_side, side_of};
+ghost use Rattle.mt_connection.specs.Transcript.{setting};
 ghost use Rattle.mt_settings.specs.Words.{settings_of};
 ghost use Rattle.mt_settings.specs.declared.fault.UsageFault.{UsageFault};
 ghost use Rattle.mt_settings.specs.declared.settings.Settings.{Settings};
 ghost use Rattle.mt_server.specs.declared.status.ServeEnd.TheVariants.{NoLink};
-ghost use Rattle.mt_server.specs.Guarantees.{HasRun, HasServed};
+ghost use Rattle.mt_server.specs.Guarantees.{HasRun, HasServed, scene, shop};
 ghost use Rattle.mt_server.specs.Lines.{SaysLine, line_of, usage_line};
-ghost use Rattle.mt_server.specs.Events.{account_side, door_side, joined, link_side, side_of, size_of};
+ghost use Rattle.mt_server.specs.Events.{door_side, size_of};
 ghost use Rattle.mt_server.specs.Statuses.{ByBytes, ByDisk, ByDoor, ByLink, IsBegun, IsOfServe, IsOfSession, IsReadyAfter, IsSilent, IsUnopened, WantsServe, WantsSession};
 
 use crate::line::say;
@@ -42,16 +44,18 @@ pub(crate) fn run<S: Source, K: Sink, D: Disk, C: Clock, W: Door>(
     requires door { W.over door.old + W.kept door.old ≡ W.taken door.old }
     requires none_kept { W.kept door.old ≡ 0 }
     ensures session { (settings : Settings) → WantsSession (map string_bytes words.now) settings → (base : State Bytes) (h : History) → ForSome (D.seen disk.old) (HasHistory base h) → (k : History) × (used : ℕ) ×
-        HasRun (setting (is_some (S.left source.old)) (is_some (D.seen disk.old)) (at_any_call C.gives (C.rule clock.old)) settings.login settings.log_limit base)
-        (D.may_leave disk.new) (LeavesOnly D.moment D.left_since disk.old disk.new) (size_of (D.seen disk.new))
-        (joined (link_side (S.left source.old) (K.got sink.old) (S.read_faults source.old) (K.write_faults sink.old)) (account_side h (size_of (D.seen disk.old)) (D.faults disk.old))) result
-        (joined (link_side (S.left source.new) (K.got sink.new) (S.read_faults source.new) (K.write_faults sink.new)) (account_side k used (D.faults disk.new))) }
+        HasRun (setting (is_some (S.left source.old)) (is_some (D.seen disk.old)) (C.gives (C.rule clock.old)) settings.login settings.log_limit base)
+        (scene D.seen D.may_leave D.left_since disk.old (joined (link_side (S.left source.old) (K.got sink.old) (S.read_faults source.old) (K.write_faults sink.old))
+        (account_side h (size_of (D.seen disk.old)) (D.faults disk.old) (told_time (is_some (D.seen disk.old)) (D.moment disk.old)) (C.asked clock.old) no_tasks))) result
+        (scene D.seen D.may_leave D.left_since disk.new (joined (link_side (S.left source.new) (K.got sink.new) (S.read_faults source.new) (K.write_faults sink.new))
+        (account_side k used (D.faults disk.new) (told_time (is_some (D.seen disk.old)) (D.moment disk.new)) (C.asked clock.new) no_tasks))) }
     ensures serve { (settings : Settings) (connections : ℕ) → WantsServe (map string_bytes words.now) settings connections → (base : State Bytes) (h : History) → ForSome (D.seen disk.old) (HasHistory base h) → (k : History) × (used : ℕ) ×
         HasServed (side_of W.Link.left W.Link.got W.Link.read_faults W.Link.write_faults) W.Link.stays
-        (setting false (is_some (D.seen disk.old)) (at_any_call C.gives (C.rule clock.old)) settings.login settings.log_limit base) connections
-        (D.may_leave disk.new) (LeavesOnly D.moment D.left_since disk.old disk.new) (size_of (D.seen disk.new))
-        (account_side h (size_of (D.seen disk.old)) (D.faults disk.old)) (door_side (W.waiting door.old) (W.given_back door.old) (W.taken door.old) (W.over door.old) (W.door_faults door.old)) result
-        (account_side k used (D.faults disk.new)) (door_side (W.waiting door.new) (W.given_back door.new) (W.taken door.new) (W.over door.new) (W.door_faults door.new)) }
+        (setting false (is_some (D.seen disk.old)) (C.gives (C.rule clock.old)) settings.login settings.log_limit base) connections
+        (scene D.seen D.may_leave D.left_since disk.old (shop (account_side h (size_of (D.seen disk.old)) (D.faults disk.old) (told_time (is_some (D.seen disk.old)) (D.moment disk.old)) (C.asked clock.old) no_tasks)
+        (door_side (W.waiting door.old) (W.given_back door.old) (W.taken door.old) (W.over door.old) (W.door_faults door.old)))) result
+        (scene D.seen D.may_leave D.left_since disk.new (shop (account_side k used (D.faults disk.new) (told_time (is_some (D.seen disk.old)) (D.moment disk.new)) (C.asked clock.new) no_tasks)
+        (door_side (W.waiting door.new) (W.given_back door.new) (W.taken door.new) (W.over door.new) (W.door_faults door.new)))) }
     ensures of_session { (settings : Settings) → WantsSession (map string_bytes words.now) settings → IsOfSession result × (door.new ≡ door.old) }
     ensures of_serve { (settings : Settings) (connections : ℕ) → WantsServe (map string_bytes words.now) settings connections → IsOfServe result × (source.new ≡ source.old) × (IsBegun result → sink.new ≡ sink.old) }
     ensures words { (fault : UsageFault) → settings_of (map string_bytes words.now) ≡ Err fault → ((result ≡ Status.Usage) ⊎ (result ≡ Status.OutOfMemory)) × (source.new ≡ source.old) × (disk.new ≡ disk.old) × (door.new ≡ door.old) }

@@ -1,24 +1,25 @@
 //! Many connections: turns of the links of a door, one after another, each of which is given back.
 ghost use Rattle.std.specs.Prelude.{◌≡◌, ◌≢◌, ◌<◌, ◌+◌, ℕ, false, true, is_some, Some};
 ghost use Rattle.std.specs.Option.{ForSome};
-ghost use Rattle.mt_base.specs.Counts.{NeverFell, Rose};
-ghost use Rattle.mt_base.specs.Lists.{IsPrefixOf};
+ghost use Rattle.mt_base.specs.Counts.{Rose};
 ghost use Rattle.mt_disk.specs.CrashModel.{IsAtRest, LeavesOnly};
 ghost use Rattle.mt_edge.specs.Doors.{as_count};
 ghost use Rattle.mt_log.specs.LogImage.{Fit, SameLog};
-ghost use Rattle.mt_log.specs.LogState.{Stands};
 ghost use Rattle.mt_model.specs.State.{State};
-ghost use Rattle.mt_engine.specs.Current.{IsBetween, Serves};
+ghost use Rattle.mt_engine.specs.Current.{Over, told_size};
 ghost use Rattle.mt_engine.specs.History.{Bytes, HasHistory, History};
 ghost use Rattle.mt_engine.specs.Opening.{IsReadable, IsRefused, KeepsLogs};
+ghost use Rattle.mt_engine.specs.Ready.{EngineGoesOn, EngineIsReady};
 ghost use Rattle.mt_engine.specs.declared.opening.Unreadable.{Unreadable};
-ghost use Rattle.mt_connection.specs.Endings.{Images};
-ghost use Rattle.mt_connection.specs.Sides.{sides, told_size};
-ghost use Rattle.mt_connection.specs.Transcript.{Over, at_any_call, setting};
-ghost use Rattle.mt_server.specs.Guarantees.{Connected, HasServed, Visit};
+ghost use Rattle.mt_connection.specs.Account.{account_side, no_tasks, told_time};
+ghost use Rattle.mt_connection.specs.Sides.{side_of};
+ghost use Rattle.mt_connection.specs.Steps.{MovesOn};
+ghost use Rattle.mt_connection.specs.Transcript.{setting};
+ghost use Rattle.mt_server.specs.Guarantees.{HasServed, scene, shop};
 ghost use Rattle.mt_server.specs.Lines.{SaysLine, line_of};
-ghost use Rattle.mt_server.specs.Events.{account_side, door_side, end_breaks, joined, link_side, side_of, size_of};
-ghost use Rattle.mt_server.specs.Statuses.{ByDisk, ByDoor, IsAskedFor, IsBegun, IsOfServe, IsReadyAfter, IsSilent, IsUnopened, TurnCounts, end_of};
+ghost use Rattle.mt_server.specs.Events.{door_side, end_breaks, size_of};
+ghost use Rattle.mt_server.specs.Statuses.{ByDisk, ByDoor, IsBegun, IsOfServe, IsReadyAfter, IsSilent, IsUnopened};
+ghost use Rattle.mt_server.specs.Visiting.{IsAskedFor, TurnCounts, Visit, end_of};
 
 use crate::came::Came;
 use crate::opening::open_store;
@@ -30,42 +31,6 @@ use mt_edge::{Both, Clock, Door, Next, Sink};
 use mt_engine::Engine;
 use std::alloc::Global;
 
-// Serves one turn of a link, and gives it back with the end of the turn.
-fn serve_link<L: Both, D: Disk, C: Clock>(
-    alloc: Global,
-    login: &str,
-    engine: &mut Engine,
-    disk: &mut D,
-    clock: &mut C,
-    link: L,
-) -> (L, ConnectionEnd)
-    requires stands { Stands D.seen D.may_leave disk.old engine.old.log }
-    requires is_open { engine.old.log.closed ≡ false }
-    requires version { engine.old.log.is_old ≡ false }
-    requires serves { Serves (D.seen disk.old) engine.old }
-    ensures served { (base : State Bytes) (h : History) → Over (D.seen disk.old) engine.old base h → (k : History) × (named : History) ×
-        Connected (setting (is_some (L.left link)) (is_some (D.seen disk.old)) (at_any_call C.gives (C.rule clock.old)) login.now engine.old.log.limit base)
-        (joined (side_of L.left L.got L.read_faults L.write_faults link) (account_side h (told_size (D.seen disk.old) engine.old) (D.faults disk.old))) result.1
-        (joined (side_of L.left L.got L.read_faults L.write_faults result.0) (account_side k (told_size (D.seen disk.new) engine.new) (D.faults disk.new))) named
-        × (is_some (D.seen disk.old) ≡ true → Images result.1 base k named (D.may_leave disk.new))
-        × (engine.new.log.closed ≡ false → Over (D.seen disk.new) engine.new base k)
-        × IsPrefixOf h k × (is_some (D.seen disk.old) ≡ true → LeavesOnly D.moment D.left_since disk.old disk.new (IsBetween base h k)) }
-    ensures stands { Stands D.seen D.may_leave disk.new engine.new.log }
-    ensures serves { Serves (D.seen disk.new) engine.new }
-    ensures told { engine.new.log.closed ≡ false → is_some (D.seen disk.new) ≡ is_some (D.seen disk.old) }
-    ensures live { result.1 ≢ ConnectionEnd.Disk → result.1 ≢ ConnectionEnd.Memory → engine.new.log.closed ≡ false }
-    ensures version { engine.new.log.closed ≡ false → engine.new.log.is_old ≡ false }
-    ensures limit { engine.new.log.closed ≡ false → engine.new.log.limit ≡ engine.old.log.limit }
-    ensures faults { NeverFell (D.faults disk.old) (D.faults disk.new) }
-    ensures by_disk { result.1 ≡ ConnectionEnd.Disk → Rose (D.faults disk.old) (D.faults disk.new) }
-    ensures rule { C.rule clock.new ≡ C.rule clock.old }
-    ensures stays { L.stays link result.0 }
-{
-    let mut link = link;
-    let end = serve_connection(alloc, login, engine, disk, clock, &mut link, MOST_MESSAGES);
-    (link, end)
-}
-
 // Takes a link from the door, serves one turn of it and gives it back.
 fn visit<W: Door, D: Disk, C: Clock>(
     alloc: Global,
@@ -76,26 +41,19 @@ fn visit<W: Door, D: Disk, C: Clock>(
     door: &mut W,
     fresh: bool,
 ) -> Came
-    requires stands { Stands D.seen D.may_leave disk.old engine.old.log }
-    requires is_open { engine.old.log.closed ≡ false }
-    requires version { engine.old.log.is_old ≡ false }
-    requires serves { Serves (D.seen disk.old) engine.old }
+    requires ready { EngineIsReady D.seen D.may_leave disk.old engine.old }
     requires back { W.over door.old + W.kept door.old ≡ W.taken door.old }
     requires some { fresh ≡ false → 0 < W.kept door.old }
-    ensures visit { (base : State Bytes) (h : History) → Over (D.seen disk.old) engine.old base h → (k : History) ×
-        Visit (side_of W.Link.left W.Link.got W.Link.read_faults W.Link.write_faults) W.Link.stays
-        (setting false (is_some (D.seen disk.old)) (at_any_call C.gives (C.rule clock.old)) login.now engine.old.log.limit base) (D.may_leave disk.new)
-        (account_side h (told_size (D.seen disk.old) engine.old) (D.faults disk.old)) (door_side (W.waiting door.old) (W.given_back door.old) (W.taken door.old) (W.over door.old) (W.door_faults door.old)) result
-        (account_side k (told_size (D.seen disk.new) engine.new) (D.faults disk.new)) (door_side (W.waiting door.new) (W.given_back door.new) (W.taken door.new) (W.over door.new) (W.door_faults door.new))
-        × (engine.new.log.closed ≡ false → Over (D.seen disk.new) engine.new base k)
-        × IsPrefixOf h k × (is_some (D.seen disk.old) ≡ true → LeavesOnly D.moment D.left_since disk.old disk.new (IsBetween base h k)) }
-    ensures stands { Stands D.seen D.may_leave disk.new engine.new.log }
-    ensures serves { Serves (D.seen disk.new) engine.new }
-    ensures told { engine.new.log.closed ≡ false → is_some (D.seen disk.new) ≡ is_some (D.seen disk.old) }
+    ensures visit { (base : State Bytes) (h : History) → Over (D.seen disk.old) engine.old base h → (k : History)
+        × Visit (side_of W.Link.left W.Link.got W.Link.read_faults W.Link.write_faults) W.Link.stays
+        (setting false (is_some (D.seen disk.old)) (C.gives (C.rule clock.old)) login.now engine.old.log.limit base) (D.left_since disk.new) (D.may_leave disk.new)
+        (shop (account_side h (told_size (D.seen disk.old) engine.old) (D.faults disk.old) (told_time (is_some (D.seen disk.old)) (D.moment disk.old)) (C.asked clock.old) no_tasks)
+        (door_side (W.waiting door.old) (W.given_back door.old) (W.taken door.old) (W.over door.old) (W.door_faults door.old))) result
+        (shop (account_side k (told_size (D.seen disk.new) engine.new) (D.faults disk.new) (told_time (is_some (D.seen disk.old)) (D.moment disk.new)) (C.asked clock.new) no_tasks)
+        (door_side (W.waiting door.new) (W.given_back door.new) (W.taken door.new) (W.over door.new) (W.door_faults door.new)))
+        × MovesOn D.seen D.moment D.left_since disk.old disk.new engine.new base h k }
+    ensures goes_on { EngineGoesOn D.seen D.may_leave D.faults disk.old disk.new engine.old engine.new }
     ensures live { end_of result ≢ Some ConnectionEnd.Disk → end_of result ≢ Some ConnectionEnd.Memory → engine.new.log.closed ≡ false }
-    ensures version { engine.new.log.closed ≡ false → engine.new.log.is_old ≡ false }
-    ensures limit { engine.new.log.closed ≡ false → engine.new.log.limit ≡ engine.old.log.limit }
-    ensures faults { NeverFell (D.faults disk.old) (D.faults disk.new) }
     ensures by_disk { end_of result ≡ Some ConnectionEnd.Disk → Rose (D.faults disk.old) (D.faults disk.new) }
     ensures counts { TurnCounts result (W.taken door.old) (W.over door.old) (W.door_faults door.old) (W.taken door.new) (W.over door.new) (W.door_faults door.new) }
     ensures asked_for { IsAskedFor fresh result }
@@ -104,8 +62,9 @@ fn visit<W: Door, D: Disk, C: Clock>(
 {
     match door.next(fresh) {
         Next::New(link) => {
-            let (given, end) = serve_link(alloc, login, engine, disk, clock, link);
-            let over = door.done(given);
+            let mut new = link;
+            let end = serve_connection(alloc, login, engine, disk, clock, &mut new, MOST_MESSAGES);
+            let over = door.done(new);
             Came::Had {
                 first: true,
                 over,
@@ -113,8 +72,9 @@ fn visit<W: Door, D: Disk, C: Clock>(
             }
         }
         Next::Again(link) => {
-            let (given, end) = serve_link(alloc, login, engine, disk, clock, link);
-            let over = door.done(given);
+            let mut kept = link;
+            let end = serve_connection(alloc, login, engine, disk, clock, &mut kept, MOST_MESSAGES);
+            let over = door.done(kept);
             Came::Had {
                 first: false,
                 over,
@@ -160,18 +120,16 @@ fn serve_links<W: Door, D: Disk, C: Clock>(
     door: &mut W,
     connections: u64,
 ) -> ServeEnd
-    requires stands { Stands D.seen D.may_leave disk.old engine.old.log }
-    requires is_open { engine.old.log.closed ≡ false }
-    requires version { engine.old.log.is_old ≡ false }
-    requires serves { Serves (D.seen disk.old) engine.old }
+    requires ready { EngineIsReady D.seen D.may_leave disk.old engine.old }
     requires door { W.over door.old + W.kept door.old ≡ W.taken door.old }
     requires none_kept { W.kept door.old ≡ 0 }
     ensures served { (base : State Bytes) (h : History) → Over (D.seen disk.old) engine.old base h → (k : History) ×
         HasServed (side_of W.Link.left W.Link.got W.Link.read_faults W.Link.write_faults) W.Link.stays
-        (setting false (is_some (D.seen disk.old)) (at_any_call C.gives (C.rule clock.old)) login.now engine.old.log.limit base) connections
-        (D.may_leave disk.new) (LeavesOnly D.moment D.left_since disk.old disk.new) (size_of (D.seen disk.new))
-        (account_side h (told_size (D.seen disk.old) engine.old) (D.faults disk.old)) (door_side (W.waiting door.old) (W.given_back door.old) (W.taken door.old) (W.over door.old) (W.door_faults door.old)) (Status.Serve result)
-        (account_side k (told_size (D.seen disk.new) engine.new) (D.faults disk.new)) (door_side (W.waiting door.new) (W.given_back door.new) (W.taken door.new) (W.over door.new) (W.door_faults door.new)) }
+        (setting false (is_some (D.seen disk.old)) (C.gives (C.rule clock.old)) login.now engine.old.log.limit base) connections
+        (scene D.seen D.may_leave D.left_since disk.old (shop (account_side h (told_size (D.seen disk.old) engine.old) (D.faults disk.old) (told_time (is_some (D.seen disk.old)) (D.moment disk.old)) (C.asked clock.old) no_tasks)
+        (door_side (W.waiting door.old) (W.given_back door.old) (W.taken door.old) (W.over door.old) (W.door_faults door.old)))) (Status.Serve result)
+        (scene D.seen D.may_leave D.left_since disk.new (shop (account_side k (told_size (D.seen disk.new) engine.new) (D.faults disk.new) (told_time (is_some (D.seen disk.old)) (D.moment disk.new)) (C.asked clock.new) no_tasks)
+        (door_side (W.waiting door.new) (W.given_back door.new) (W.taken door.new) (W.over door.new) (W.door_faults door.new)))) }
     ensures by_disk { ByDisk (Status.Serve result) (D.faults disk.old) (D.faults disk.new) }
     ensures rest { result ≢ ServeEnd.Disk → result ≢ ServeEnd.Memory → IsAtRest D.seen D.may_leave disk.new × ForSome (D.seen disk.new) Fit }
     ensures by_door { ByDoor (Status.Serve result) connections (W.taken door.old) (W.door_faults door.old) (W.taken door.new) (W.door_faults door.new) }
@@ -220,10 +178,11 @@ pub(crate) fn serve<K: Sink, D: Disk, C: Clock, W: Door>(
     requires none_kept { W.kept door.old ≡ 0 }
     ensures served { (base : State Bytes) (h : History) → ForSome (D.seen disk.old) (HasHistory base h) → (k : History) × (used : ℕ) ×
         HasServed (side_of W.Link.left W.Link.got W.Link.read_faults W.Link.write_faults) W.Link.stays
-        (setting false (is_some (D.seen disk.old)) (at_any_call C.gives (C.rule clock.old)) login.now limit base) connections
-        (D.may_leave disk.new) (LeavesOnly D.moment D.left_since disk.old disk.new) (size_of (D.seen disk.new))
-        (account_side h (size_of (D.seen disk.old)) (D.faults disk.old)) (door_side (W.waiting door.old) (W.given_back door.old) (W.taken door.old) (W.over door.old) (W.door_faults door.old)) result
-        (account_side k used (D.faults disk.new)) (door_side (W.waiting door.new) (W.given_back door.new) (W.taken door.new) (W.over door.new) (W.door_faults door.new)) }
+        (setting false (is_some (D.seen disk.old)) (C.gives (C.rule clock.old)) login.now limit base) connections
+        (scene D.seen D.may_leave D.left_since disk.old (shop (account_side h (size_of (D.seen disk.old)) (D.faults disk.old) (told_time (is_some (D.seen disk.old)) (D.moment disk.old)) (C.asked clock.old) no_tasks)
+        (door_side (W.waiting door.old) (W.given_back door.old) (W.taken door.old) (W.over door.old) (W.door_faults door.old)))) result
+        (scene D.seen D.may_leave D.left_since disk.new (shop (account_side k used (D.faults disk.new) (told_time (is_some (D.seen disk.old)) (D.moment disk.new)) (C.asked clock.new) no_tasks)
+        (door_side (W.waiting door.new) (W.given_back door.new) (W.taken door.new) (W.over door.new) (W.door_faults door.new)))) }
     ensures of_serve { IsOfServe result }
     ensures begun { IsBegun result → (sink.new ≡ sink.old) × ForSome (D.seen disk.old) IsReadable }
     ensures unopened { IsUnopened result → (door.new ≡ door.old) × ForSome (D.seen disk.old) (λ files. LeavesOnly D.moment D.left_since disk.old disk.new (SameLog files)) }

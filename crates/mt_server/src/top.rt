@@ -8,15 +8,17 @@ ghost use Rattle.mt_model.specs.State.{State};
 ghost use Rattle.mt_engine.specs.History.{Bytes, HasHistory, History};
 ghost use Rattle.mt_engine.specs.Opening.{IsRefused, KeepsLogs};
 ghost use Rattle.mt_engine.specs.declared.opening.Unreadable.{Unreadable};
+ghost use Rattle.mt_connection.specs.Account.{account_side, no_tasks, told_time};
 ghost use Rattle.mt_connection.specs.Outcomes.{Outcome, OutcomeAt};
-ghost use Rattle.mt_connection.specs.Transcript.{at_any_call, setting};
+ghost use Rattle.mt_connection.specs.Sides.{joined, link_side, side_of};
+ghost use Rattle.mt_connection.specs.Transcript.{setting};
 ghost use Rattle.mt_settings.specs.Words.{settings_of};
 ghost use Rattle.mt_settings.specs.declared.fault.UsageFault.{UsageFault};
 ghost use Rattle.mt_settings.specs.declared.settings.Settings.{Settings};
-ghost use Rattle.mt_server.specs.Guarantees.{HasRun, HasServed};
+ghost use Rattle.mt_server.specs.Guarantees.{HasRun, HasServed, scene, shop};
 ghost use Rattle.mt_server.specs.Lines.{SaysLine, line_of, usage_line};
-ghost use Rattle.mt_server.specs.Events.{account_side, door_side, joined, link_side, side_of, size_of};
-ghost use Rattle.mt_server.specs.Statuses.{Asked, IsBroken, WantsServe, WantsSession, code_of, most_messages};
+ghost use Rattle.mt_server.specs.Events.{door_side, size_of};
+ghost use Rattle.mt_server.specs.Statuses.{Asked, IsBroken, WantsServe, WantsService, WantsSession, code_of, most_messages};
 ghost use Rattle.mt_server.specs.declared.status.Status.{Status};
 
 use crate::run::run;
@@ -57,31 +59,34 @@ pub fn mantad<S: Source, K: Sink, D: Disk, P: Spawner, C: Clock, W: Door>(
     requires door { W.over door.old + W.kept door.old ≡ W.taken door.old }
     requires none_kept { W.kept door.old ≡ 0 }
 
-    // A session over each base and history that the disk stands for at entry: the transcript, durable at exit, what a crash leaves at
-    // any moment, a reply implies durable.
+    // A session over each base and history that the disk stands for at entry: what was said, each reply durable from its exchange on;
+    // durable at exit, and what a crash leaves at any moment.
     ensures run { (settings : Settings) → WantsSession (map string_bytes words.now) settings → (base : State Bytes) (h : History) → ForSome (D.seen disk.old) (HasHistory base h)
         → (end : Status) × (result ≡ code_of end) × (k : History) × (used : ℕ) ×
-        HasRun (setting (is_some (S.left source.old)) (is_some (D.seen disk.old)) (at_any_call C.gives (C.rule clock.old)) settings.login settings.log_limit base)
-        (D.may_leave disk.new) (LeavesOnly D.moment D.left_since disk.old disk.new) (size_of (D.seen disk.new))
-        (joined (link_side (S.left source.old) (K.got sink.old) (S.read_faults source.old) (K.write_faults sink.old)) (account_side h (size_of (D.seen disk.old)) (D.faults disk.old))) end
-        (joined (link_side (S.left source.new) (K.got sink.new) (S.read_faults source.new) (K.write_faults sink.new)) (account_side k used (D.faults disk.new))) }
+        HasRun (setting (is_some (S.left source.old)) (is_some (D.seen disk.old)) (C.gives (C.rule clock.old)) settings.login settings.log_limit base)
+        (scene D.seen D.may_leave D.left_since disk.old (joined (link_side (S.left source.old) (K.got sink.old) (S.read_faults source.old) (K.write_faults sink.old))
+        (account_side h (size_of (D.seen disk.old)) (D.faults disk.old) (told_time (is_some (D.seen disk.old)) (D.moment disk.old)) (C.asked clock.old) no_tasks))) end
+        (scene D.seen D.may_leave D.left_since disk.new (joined (link_side (S.left source.new) (K.got sink.new) (S.read_faults source.new) (K.write_faults sink.new))
+        (account_side k used (D.faults disk.new) (told_time (is_some (D.seen disk.old)) (D.moment disk.new)) (C.asked clock.new) no_tasks))) }
     // The same of a serve: the turns of the links of the door.
     ensures served { (settings : Settings) (connections : ℕ) → WantsServe (map string_bytes words.now) settings connections → (base : State Bytes) (h : History) → ForSome (D.seen disk.old) (HasHistory base h)
         → (end : Status) × (result ≡ code_of end) × (k : History) × (used : ℕ) ×
         HasServed (side_of W.Link.left W.Link.got W.Link.read_faults W.Link.write_faults) W.Link.stays
-        (setting false (is_some (D.seen disk.old)) (at_any_call C.gives (C.rule clock.old)) settings.login settings.log_limit base) connections
-        (D.may_leave disk.new) (LeavesOnly D.moment D.left_since disk.old disk.new) (size_of (D.seen disk.new))
-        (account_side h (size_of (D.seen disk.old)) (D.faults disk.old)) (door_side (W.waiting door.old) (W.given_back door.old) (W.taken door.old) (W.over door.old) (W.door_faults door.old)) end
-        (account_side k used (D.faults disk.new)) (door_side (W.waiting door.new) (W.given_back door.new) (W.taken door.new) (W.over door.new) (W.door_faults door.new)) }
+        (setting false (is_some (D.seen disk.old)) (C.gives (C.rule clock.old)) settings.login settings.log_limit base) connections
+        (scene D.seen D.may_leave D.left_since disk.old (shop (account_side h (size_of (D.seen disk.old)) (D.faults disk.old) (told_time (is_some (D.seen disk.old)) (D.moment disk.old)) (C.asked clock.old) no_tasks)
+        (door_side (W.waiting door.old) (W.given_back door.old) (W.taken door.old) (W.over door.old) (W.door_faults door.old)))) end
+        (scene D.seen D.may_leave D.left_since disk.new (shop (account_side k used (D.faults disk.new) (told_time (is_some (D.seen disk.old)) (D.moment disk.new)) (C.asked clock.new) no_tasks)
+        (door_side (W.waiting door.new) (W.given_back door.new) (W.taken door.new) (W.over door.new) (W.door_faults door.new)))) }
 
     // An early exit touches nothing but for its line.
     ensures early_usage { result ≡ 1 → (source.new ≡ source.old) × (disk.new ≡ disk.old) × (door.new ≡ door.old)
         × SaysLine usage_line (K.got sink.old) (K.got sink.new) (K.write_faults sink.old) (K.write_faults sink.new) }
-    ensures early_unreadable { result ≡ 2 → (source.new ≡ source.old) × (door.new ≡ door.old) × ((why : Unreadable) × SaysLine (line_of why) (K.got sink.old) (K.got sink.new) (K.write_faults sink.old) (K.write_faults sink.new)
+    ensures early_unreadable { (settings : Settings) → WantsService (map string_bytes words.now) settings → result ≡ 2 → (source.new ≡ source.old) × (door.new ≡ door.old)
+        × ((why : Unreadable) × SaysLine (line_of why) (K.got sink.old) (K.got sink.new) (K.write_faults sink.old) (K.write_faults sink.new)
         × ForSome (D.seen disk.old) (λ files. IsRefused files why × KeepsLogs D.seen D.may_leave disk.new files)) }
     // On a store that can't be read, whatever the status: its log stays at each moment, nothing is read, nothing written but the line.
-    ensures untouched { ForSome (D.seen disk.old) (λ files. (why : Unreadable) → IsRefused files why → (source.new ≡ source.old) × (door.new ≡ door.old)
-        × (result ≢ 1 → result ≢ 2 → sink.new ≡ sink.old) × (result ≢ 1 → LeavesOnly D.moment D.left_since disk.old disk.new (SameLog files))) }
+    ensures untouched { (settings : Settings) → WantsService (map string_bytes words.now) settings → ForSome (D.seen disk.old) (λ files. (why : Unreadable) → IsRefused files why → (source.new ≡ source.old) × (door.new ≡ door.old)
+        × (spawner.new ≡ spawner.old) × (result ≢ 2 → sink.new ≡ sink.old) × LeavesOnly D.moment D.left_since disk.old disk.new (SameLog files)) }
 
     // After every status but 5 and 8 another run can follow on the disk; after 2 where the disk told at entry what it held.
     ensures rest { result ≢ 5 → result ≢ 8 → (result ≡ 2 → is_some (D.seen disk.old) ≡ true) → IsAtRest D.seen D.may_leave disk.new × ForSome (D.seen disk.new) Fit }
@@ -94,8 +99,9 @@ pub fn mantad<S: Source, K: Sink, D: Disk, P: Spawner, C: Clock, W: Door>(
 
     // 1 exactly by the words, 2 exactly by the disk; want of memory is the one free answer.
     ensures one { result ≡ 1 → (fault : UsageFault) × (settings_of (map string_bytes words.now) ≡ Err fault) }
-    ensures one_exactly { (fault : UsageFault) → settings_of (map string_bytes words.now) ≡ Err fault → ((result ≡ 1) ⊎ (result ≡ 8)) × (source.new ≡ source.old) × (disk.new ≡ disk.old) × (door.new ≡ door.old) }
-    ensures two_exactly { ForSome (D.seen disk.old) (λ files. (why : Unreadable) → IsRefused files why → (result ≡ 1) ⊎ (result ≡ 2) ⊎ (result ≡ 5) ⊎ (result ≡ 8)) }
+    ensures one_exactly { (fault : UsageFault) → settings_of (map string_bytes words.now) ≡ Err fault → ((result ≡ 1) ⊎ (result ≡ 8)) × (source.new ≡ source.old) × (disk.new ≡ disk.old) × (door.new ≡ door.old)
+        × ((sink.new ≡ sink.old) ⊎ (result ≡ 1)) × (spawner.new ≡ spawner.old) }
+    ensures two_exactly { (settings : Settings) → WantsService (map string_bytes words.now) settings → ForSome (D.seen disk.old) (λ files. (why : Unreadable) → IsRefused files why → (result ≡ 2) ⊎ (result ≡ 5) ⊎ (result ≡ 8)) }
 
     // 3, 4, 5 and 10 only where a count rose; 3, 4, 11, 12 and 13 never of a serve, 10 never of a session.
     ensures three { result ≡ 3 → Rose (S.read_faults source.old) (S.read_faults source.new) }
@@ -110,9 +116,9 @@ pub fn mantad<S: Source, K: Sink, D: Disk, P: Spawner, C: Clock, W: Door>(
 
     // Of a session 0, 11, 12 and 13 by the bytes of the source, and exactly so unless something broke.
     ensures zero { (settings : Settings) → WantsSession (map string_bytes words.now) settings → result ≡ 0 → IfSome (S.left source.old) (λ bytes. OutcomeAt most_messages bytes Outcome.Closed) }
-    ensures eleven { result ≡ 11 → IfSome (S.left source.old) (λ bytes. OutcomeAt most_messages bytes Outcome.CutShort) }
-    ensures twelve { result ≡ 12 → IfSome (S.left source.old) (λ bytes. OutcomeAt most_messages bytes Outcome.Malformed) }
-    ensures thirteen { result ≡ 13 → IfSome (S.left source.old) (λ bytes. OutcomeAt most_messages bytes Outcome.TooMany) }
+    ensures eleven { (settings : Settings) → WantsSession (map string_bytes words.now) settings → result ≡ 11 → IfSome (S.left source.old) (λ bytes. OutcomeAt most_messages bytes Outcome.CutShort) }
+    ensures twelve { (settings : Settings) → WantsSession (map string_bytes words.now) settings → result ≡ 12 → IfSome (S.left source.old) (λ bytes. OutcomeAt most_messages bytes Outcome.Malformed) }
+    ensures thirteen { (settings : Settings) → WantsSession (map string_bytes words.now) settings → result ≡ 13 → IfSome (S.left source.old) (λ bytes. OutcomeAt most_messages bytes Outcome.TooMany) }
     ensures by_bytes { (settings : Settings) → WantsSession (map string_bytes words.now) settings → IfSome (S.left source.old) (λ bytes. (o : Outcome) → OutcomeAt most_messages bytes o → IsBroken result ⊎ Asked o result) }
 {
     let _ = &spawner;

@@ -1,7 +1,7 @@
 //! Sessions and serves over one disk, each with requests, faults and a crash of its own.
 use crate::links::Links;
 use crate::picks::picks_of;
-use crate::stops::put_stops;
+use crate::stops::{Attempt, put_stops};
 use crate::store::{Ends, Files, Left, run_over};
 use mt_disk::{CrashError, MemDisk, Pick};
 use mt_rows::{Row, Rows, Stop, unescaped};
@@ -59,6 +59,11 @@ impl Sessions {
         Ok(())
     }
 
+    fn set_moments(&mut self, alloc: Global, row: &Row) -> Result<(), Stop> {
+        self.ends.moments = row.numbers(alloc, 1)?;
+        Ok(())
+    }
+
     fn set_picks(&mut self, alloc: Global, row: &Row) -> Result<(), Stop> {
         self.picks = picks_of(alloc, row)?;
         Ok(())
@@ -74,9 +79,18 @@ impl Sessions {
         Ok(())
     }
 
-    fn put_stops(&self, alloc: Global, row: &Row, out: &mut String) -> Result<(), Stop> {
+    // The links at the door are gone behind it.
+    fn put_stops(&mut self, alloc: Global, row: &Row, out: &mut String) -> Result<(), Stop> {
         let words = words_of(alloc, row)?;
-        put_stops(alloc, &words, &self.files, &self.ends, out)
+        let run = Attempt {
+            words: &words,
+            files: &self.files,
+            ends: &self.ends,
+            links: &self.links,
+        };
+        put_stops(alloc, &run, out)?;
+        self.links = Links::new(alloc);
+        Ok(())
     }
 
     // The requests and the faults of streams so far are those of one more link at the door.
@@ -150,6 +164,7 @@ impl Sessions {
     fn forget_faults(&mut self, alloc: Global) {
         self.ends.reads_fail.clear();
         self.ends.writes_fail.clear();
+        self.ends.moments.clear();
         self.links = Links::new(alloc);
         self.disk_fails.clear();
         self.picks.clear();
@@ -181,6 +196,7 @@ impl Rows for Sessions {
             "order" => self.links.set_order(alloc, row),
             ">" | ">|" => self.add_request(alloc, line),
             "fail" => self.set_failing(alloc, row),
+            "moments" => self.set_moments(alloc, row),
             "crash" => self.set_picks(alloc, row),
             "run" => self.run(alloc, row, out),
             "calls" => self.put_calls(out),

@@ -3,7 +3,7 @@ ghost use Rattle.std.specs.Prelude.{◌≡◌, ◌<◌, [], length};
 
 use crate::links::Links;
 use mt_disk::{FileNo, MemDisk, Room};
-use mt_edge::{FixedClock, MemDoor, MemSink, MemSource};
+use mt_edge::{LAST_MOMENT, MemClock, MemDoor, MemSink, MemSource};
 use mt_rows::{Row, Stop, put_line, put_lines};
 use mt_server::mantad;
 use mt_spawn::NoSpawner;
@@ -66,21 +66,23 @@ impl Files {
     }
 }
 
-/// What is read and how reads and writes fail, counted from 0.
+/// What is read, how reads and writes fail, counted from 0, and the moments of the clock, one a call.
 #[derive(Drop)]
 pub struct Ends {
     pub requests: Vec<u8>,
     pub reads_fail: Vec<u64>,
     pub writes_fail: Vec<u64>,
+    pub moments: Vec<u64>,
 }
 
 impl Ends {
-    /// Nothing is read, and nothing fails.
+    /// Nothing is read, nothing fails, and it is always 1970.
     pub fn new(alloc: Global) -> Ends {
         Ends {
             requests: Vec::new(alloc),
             reads_fail: Vec::new(alloc),
             writes_fail: Vec::new(alloc),
+            moments: Vec::new(alloc),
         }
     }
 
@@ -90,7 +92,22 @@ impl Ends {
             requests: Vec::from_slice(alloc, &self.requests)?,
             reads_fail: Vec::from_slice(alloc, &self.reads_fail)?,
             writes_fail: Vec::from_slice(alloc, &self.writes_fail)?,
+            moments: Vec::from_slice(alloc, &self.moments)?,
         })
+    }
+
+    /// The clock of these moments, which gives the last of them from then on; with none, 0.
+    pub fn clock(&self, alloc: Global) -> Result<MemClock, Stop> {
+        let mut listed = Vec::new(alloc);
+        let mut later = 0;
+        for moment in &self.moments {
+            if *moment > LAST_MOMENT {
+                return Err(Stop::NoSuchRow);
+            }
+            later = *moment;
+            listed.push(later)?;
+        }
+        Ok(MemClock::new(listed, later))
     }
 
     /// The source of these bytes.
@@ -112,8 +129,8 @@ pub struct Left {
     pub status: u8,
     pub sink: MemSink,
     pub disk: MemDisk,
-    // What was written to each link that was given back.
-    said: Vec<Vec<u8>>,
+    /// What was written to each link that was given back.
+    pub said: Vec<Vec<u8>>,
 }
 
 impl Left {
@@ -168,7 +185,7 @@ fn run_told(
         &mut sink,
         &mut disk,
         &mut NoSpawner::new(),
-        &mut FixedClock::new(0),
+        &mut ends.clock(alloc)?,
         &mut door,
     );
     let said = said_to(alloc, &door)?;
@@ -203,7 +220,7 @@ fn run_untold(
         &mut sink,
         &mut disk,
         &mut NoSpawner::new(),
-        &mut FixedClock::new(0),
+        &mut ends.clock(alloc)?,
         &mut door,
     );
     let said = door.said(alloc)?;

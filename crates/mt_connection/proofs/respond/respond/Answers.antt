@@ -3,9 +3,6 @@ use Rattle.mt_http.specs.Options as options
 use Rattle.mt_connection.proofs.Sending.{some_body, unread}
 use Rattle.mt_connection.proofs.respond.respond.Goals as goal
 
-pub returns-in-Ok-clause-stands : goal.returns-in-Ok-clause-stands
-returns-in-Ok-clause-stands g c = λ s. c.send-in-Ok.ensures.stands (c.in-Ok.ensures.stands s)
-
 pub returns-in-Err-clause-sends : goal.returns-in-Err-clause-sends
 returns-in-Err-clause-sends g c =
     let b = some_body (g.D.Disk.seen c.args.disk.now) c.args.reply.body c.requires.shown in

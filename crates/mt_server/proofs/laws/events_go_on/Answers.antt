@@ -4,10 +4,10 @@ use Rattle.mt_server.proofs.Following.{events_more, passed_more, rounds_more, wh
 use Rattle.mt_server.proofs.laws.events_go_on.Goals as goal
 
 pub returns-clause-events : goal.returns-clause-events
-returns-clause-events g c rule knows login limit base old mid new xs ys none h k = events_more _ NothingFollows old xs mid ys new none h k
+returns-clause-events g c disk rule knows login limit base old mid new xs ys none h k = events_more _ NothingFollows old xs mid ys new none h k
 
 pub returns-clause-rounds : goal.returns-clause-rounds
-returns-clause-rounds g c rule knows login limit base old mid new xs ys none h k = rounds_more _ NothingFollows old xs mid ys new none h k
+returns-clause-rounds g c disk rule knows login limit base old mid new xs ys none h k = rounds_more _ NothingFollows old xs mid ys new none h k
 
 pub returns-clause-whole : goal.returns-clause-whole
 returns-clause-whole g c es whole = (whole_firsts es whole, whole_lasts es whole, whole_over es whole)

@@ -1,10 +1,12 @@
 -- Nothing is done, or what the words ask for.
-use Rattle.std.proofs.Common.{refl, ap, ◌∙◌}
+use Rattle.std.proofs.Common.{refl, ap, ◌∙◌, arith}
 use Rattle.mt_settings.specs.declared.settings.Settings.{Settings}
 use Rattle.mt_server.specs.declared.status.Status.TheVariants as status
-use Rattle.mt_server.proofs.Opened.{unserved_run}
-use Rattle.mt_server.proofs.Rest.{rest_crash, rest_has, rest_same}
+use Rattle.mt_server.proofs.Following.{passed_nothing}
+use Rattle.mt_server.proofs.Opened.{opening_holds}
+use Rattle.mt_server.proofs.Rest.{rest_same}
 use Rattle.mt_server.proofs.Serves.{unserved_serve}
+use Rattle.mt_server.proofs.Sessions.{unserved_run}
 use Rattle.mt_server.proofs.Wanted.{same_number, same_settings}
 use Rattle.mt_server.proofs.run.run.Goals as goal
 
@@ -21,25 +23,27 @@ returns-in-Err-Memory-clause-unopened g c closed =
 pub returns-in-Err-Memory-clause-session : goal.returns-in-Err-Memory-clause-session
 returns-in-Err-Memory-clause-session g c settings wants base h has =
     let d = g.D.Disk in
-    let disk = c.args.disk.now in (
+    let disk = c.args.disk.now in
+    let got = g.K.Sink.got c.args.sink.now in
+    let w = g.K.Sink.write_faults c.args.sink.now in (
       h,
       _,
-      unserved_run _ _ _ _ _ _ _ _ _ _ h _ _ _ status.OutOfMemory tt (refl, refl)
-          (λ knows. rest_has d.seen d.may_leave disk c.requires.rest base h has knows)
-          (λ knows. rest_crash d.seen d.may_leave d.moment d.left_since disk c.requires.rest (g.met.D.Disk.only_now disk) base h has knows)
-          (λ knows. tt),
+      unserved_run _ _ _ status.OutOfMemory tt (record { history = refl; used = refl; left = refl; ends = (refl, refl) })
+          (opening_holds d.seen d.may_leave d.moment d.left_since disk disk (g.met.D.Disk.counts_now disk) (g.met.D.Disk.seen_is_left disk) _ h _ _ _ status.OutOfMemory got w got w refl has
+          (rest_same d.seen d.may_leave d.moment d.left_since disk c.requires.rest (g.met.D.Disk.only_now disk) c.requires.fit) tt (refl, refl) (omega arith) (λ why is. absurd (cc))),
     )
 
 pub returns-in-Err-Memory-clause-serve : goal.returns-in-Err-Memory-clause-serve
 returns-in-Err-Memory-clause-serve g c settings connections wants base h has =
     let d = g.D.Disk in
-    let disk = c.args.disk.now in (
+    let disk = c.args.disk.now in
+    let got = g.K.Sink.got c.args.sink.now in
+    let w = g.K.Sink.write_faults c.args.sink.now in (
       h,
       _,
-      unserved_serve _ _ _ _ _ _ _ h _ _ _ _ status.OutOfMemory tt tt
-          (λ knows. rest_has d.seen d.may_leave disk c.requires.rest base h has knows)
-          (λ knows. rest_crash d.seen d.may_leave d.moment d.left_since disk c.requires.rest (g.met.D.Disk.only_now disk) base h has knows)
-          (λ knows. tt),
+      unserved_serve _ _ _ _ _ _ status.OutOfMemory tt tt (passed_nothing _) refl refl
+          (opening_holds d.seen d.may_leave d.moment d.left_since disk disk (g.met.D.Disk.counts_now disk) (g.met.D.Disk.seen_is_left disk) _ h _ _ _ status.OutOfMemory got w got w refl has
+          (rest_same d.seen d.may_leave d.moment d.left_since disk c.requires.rest (g.met.D.Disk.only_now disk) c.requires.fit) tt (refl, refl) (omega arith) (λ why is. absurd (cc))),
     )
 
 pub returns-clause-serve : goal.returns-clause-serve

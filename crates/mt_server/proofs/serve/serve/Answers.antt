@@ -1,30 +1,52 @@
 -- The links are served over the history at entry, or the store was not opened and the door stands as it was.
-use Rattle.std.proofs.Common.{refl, ap, sym, ◌∙◌}
-use Rattle.std.specs.Prelude.{is_some, Err}
+use Rattle.std.proofs.Common.{refl, ap, sym, ◌∙◌, arith}
+use Rattle.std.specs.Prelude.{Err, is_some}
 use Rattle.mt_disk.proofs.Moments.{leaves_now}
+use Rattle.mt_engine.specs.Current.{IsBetween}
 use Rattle.mt_log.specs.LogImage.{SameLog}
-use Rattle.mt_connection.proofs.Crashes.{between_first}
-use Rattle.mt_server.proofs.Connecting.{size_told}
-use Rattle.mt_server.proofs.Opened.{crash_from_entry, crash_of_opening, kept_size, over_opened, same_history, serves_opened, sized_unopened, some_files}
+use Rattle.mt_connection.proofs.Crashes.{between_first, told_later}
+use Rattle.mt_server.proofs.Connecting.{leaves, leaves_only, size_told}
+use Rattle.mt_server.proofs.Following.{passed_nothing}
+use Rattle.mt_server.proofs.Opened.{crash_from_entry, kept_size, opening_holds, over_opened, some_files}
 use Rattle.mt_server.proofs.Serves.{disk_later, earlier_serve, not_begun, said_why, served_here, unopened_serve, unserved_serve}
 use Rattle.mt_server.proofs.Settling.{ready_refused, ready_serve, ready_unopened}
 use Rattle.mt_server.proofs.serve.serve.Goals as goal
 
-pub serve_links-requires-clause-serves : goal.serve_links-requires-clause-serves
-serve_links-requires-clause-serves g c = serves_opened _ _ _ c.in-Ok.ensures.tells c.in-Ok.ensures.current c.in-Ok.ensures.opened.1
-
 pub returns-in-Ok-clause-served : goal.returns-in-Ok-clause-served
 returns-in-Ok-clause-served g c base h has =
     let d = g.D.Disk in
+    let old = c.args.disk.now in
     let mid = c.open_store.new.disk in
-    let run = c.serve_links.ensures.served base h (over_opened _ _ _ base h c.in-Ok.ensures.tells c.in-Ok.ensures.current has) in
-    let same_size = size_told d.seen d.may_leave mid c.in-Ok.engine c.in-Ok.ensures.stands c.in-Ok.ensures.live
-    ∙ kept_size _ _ c.in-Ok.ensures.tells (λ files is now now_is. leaves_now d.moment d.left_since d.may_leave _ _ (SameLog files) (c.open_store.ensures.any_moment files is) (g.met.D.Disk.counts_now mid) now (g.met.D.Disk.seen_is_left mid now now_is)) in
-    let here = served_here _ _ _ c.args.login.now base _ _ _ _ _ _ c.in-Ok.ensures.tells c.in-Ok.ensures.limit same_size _ _ _ _ h _ _ _ _ _ run.1 in (
+    let new = c.serve_links.new.disk in
+    let ready = c.in-Ok.ensures.ready in
+    let tells = c.in-Ok.ensures.tells in
+    let opening = c.open_store.ensures.any_moment in
+    let run = c.serve_links.ensures.served base h (over_opened _ _ _ base h tells c.in-Ok.ensures.current has) in
+    let same_size = size_told d.seen d.may_leave mid c.in-Ok.engine ready.stands ready.is_open
+    ∙ kept_size _ _ tells (λ files is now now_is. leaves_now d.moment d.left_since d.may_leave _ _ (SameLog files) (opening files is) (g.met.D.Disk.counts_now mid) now (g.met.D.Disk.seen_is_left mid now now_is)) in
+    let here = served_here _ _ _ c.args.login.now base _ _ _ _ _ _ tells c.in-Ok.ensures.limit same_size _ _ _ _ _ _ _ h _ _ _ _ _ run.0 _ _ _ _ _ run.1 in (
       run.0,
       _,
-      earlier_serve _ _ _ _ _ _ _ _ h _ _ _ _ _ _ _ c.open_store.ensures.faults
-          (λ knows later. let there = some_files (d.seen c.args.disk.now) knows in crash_from_entry d.may_leave d.moment d.left_since c.args.disk.now mid _ there.0 base h run.0 (has there.0 there.1) (c.open_store.ensures.any_moment there.0 there.1) later (λ c has. between_first base h run.0 c run.1.grew has))
+      earlier_serve _ _ _ _ _ _ _ _
+          (record {
+            history = refl;
+            used = refl;
+            tasks = refl;
+            asked = refl;
+            counts = record {
+              disk = c.open_store.ensures.faults;
+              time = told_later (is_some (d.seen old)) (d.moment old) (d.moment mid) (λ knows. let there = some_files (d.seen old) knows in (opening there.0 there.1).later);
+              asked = omega arith;
+              spawn = omega arith;
+              waits = omega arith;
+              company = omega arith;
+            };
+          })
+          refl
+          (leaves d.moment d.left_since old new (IsBetween base h run.0) _
+          (λ knows.
+          let there = some_files (d.seen old) knows in
+          crash_from_entry d.may_leave d.moment d.left_since old mid new there.0 base h run.0 (has there.0 there.1) (opening there.0 there.1) (leaves_only d.moment d.left_since mid new (IsBetween base h run.0) _ knows (here.holds.crash_prefix knows)) (λ c has. between_first base h run.0 c (here.holds.added, sym here.holds.grew) has)))
           here,
     )
 
@@ -32,18 +54,13 @@ pub returns-in-Err-clause-served : goal.returns-in-Err-clause-served
 returns-in-Err-clause-served g c base h has =
     let d = g.D.Disk in
     let new = c.open_store.new.disk in
-    let facts = unopened_serve c.in-Err.status _ _ _ _ _ _ c.in-Err.ensures.unopened.1 in (
+    let closed = c.in-Err.ensures.unopened in
+    let of = (unopened_serve c.in-Err.status _ _ _ _ _ _ closed.1).0 in (
       h,
       _,
-      unserved_serve _ _ _ _ _ _ _ h _ _ _ _ c.in-Err.status c.in-Err.ensures.unopened.0 facts.0
-          (λ knows c0 image. let there = some_files (d.seen c.args.disk.now) knows in same_history base h there.0 c0 (leaves_now d.moment d.left_since d.may_leave _ _ (SameLog there.0) (c.open_store.ensures.any_moment there.0 there.1) (g.met.D.Disk.counts_now new) c0 image) (has there.0 there.1))
-          (λ knows. let there = some_files (d.seen c.args.disk.now) knows in crash_of_opening d.may_leave d.moment d.left_since c.args.disk.now new there.0 base h (has there.0 there.1) (c.open_store.ensures.any_moment there.0 there.1))
-          (λ knows.
-          let there = some_files (d.seen c.args.disk.now) knows in
-          sized_unopened c.in-Err.status _ _ _ _ _ _ _ _ c.in-Err.ensures.unopened.1
-          (λ why is.
-          let kept = (c.open_store.ensures.refused why (c.in-Err.is ∙ ap (λ e. Err e) is) there.0 there.1).1 in
-          sym (kept_size (d.seen c.args.disk.now) (d.seen new) (ap is_some kept.seen_is ∙ sym (ap is_some there.1)) (λ files is now now_is. leaves_now d.moment d.left_since d.may_leave _ _ (SameLog files) (c.open_store.ensures.any_moment files is) (g.met.D.Disk.counts_now new) now (g.met.D.Disk.seen_is_left new now now_is))))),
+      unserved_serve _ _ _ _ _ _ c.in-Err.status closed.0 of (passed_nothing _) refl refl
+          (opening_holds d.seen d.may_leave d.moment d.left_since c.args.disk.now new (g.met.D.Disk.counts_now new) (g.met.D.Disk.seen_is_left new) _ h _ _ _ c.in-Err.status _ _ _ _ refl has c.open_store.ensures.any_moment closed.0 closed.1 c.open_store.ensures.faults
+          (λ why is files seen_is. (c.open_store.ensures.refused why (c.in-Err.is ∙ ap (λ e. Err e) is) files seen_is).1)),
     )
 
 pub returns-in-Err-clause-of_serve : goal.returns-in-Err-clause-of_serve

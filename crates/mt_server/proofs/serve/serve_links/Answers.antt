@@ -1,35 +1,32 @@
 -- The events so far, and then one more, or the end.
-use Rattle.std.proofs.Common.{◌≡◌, ◌<◌, ◌∷◌, [], ◌++◌, refl, ap, sym, subst, ◌∙◌, arith}
+use Rattle.std.proofs.Common.{◌≡◌, ◌<◌, ◌∷◌, [], ◌++◌, refl, sym, subst, ◌∙◌, arith}
 use Rattle.std.proofs.lemmas.Bool.{ltb-true}
 use Rattle.std.proofs.lemmas.Option.{none-some}
-use Rattle.mt_connection.proofs.Crashes.{images_open, unmoved}
-use Rattle.mt_connection.specs.Transcript.{at_any_call}
+use Rattle.mt_engine.specs.Current.{IsBetween}
+use Rattle.mt_connection.proofs.Crashes.{images_open, moves_more, moves_none}
 use Rattle.mt_server.specs.Events.{Had, Woke}
 use Rattle.mt_server.specs.declared.came.Came.TheVariants as came
-use Rattle.mt_server.proofs.Connecting.{size_told}
+use Rattle.mt_server.proofs.Connecting.{leaves, size_told}
 use Rattle.mt_server.proofs.Going.{counted_had, counted_woke, going_had, going_nothing, going_same, going_woke, served_broke, served_open}
-use Rattle.mt_server.proofs.Overs.{no_break, visit_here}
-use Rattle.mt_server.proofs.Settling.{ready_open}
-use Rattle.mt_server.proofs.Turns.{broke_which, crash_more, disk_over, door_over, within}
+use Rattle.mt_server.proofs.Later.{goes_by}
+use Rattle.mt_server.proofs.Overs.{no_break, same_here, visit_here}
+use Rattle.mt_server.proofs.Turns.{within}
 use Rattle.mt_server.proofs.serve.serve_links.Goals as goal
 use Rattle.mt_server.proofs.serve.serve_links.Goals.{in-Had+in_default, in-Woke}
 
 pub events-init : goal.events-init
 events-init g c =
     let d = g.D.Disk in
+    let ready = c.requires.ready in
     record {
       so_far = λ base h over. (
         h,
         [],
         going_nothing _ _ _ _ _,
         record { all_is = refl; firsts_is = refl; lasts_is = refl },
-        over,
-        (λ knows. unmoved d.seen d.may_leave d.moment d.left_since c.args.disk.now c.args.engine.now base h (g.met.D.Disk.only_now c.args.disk.now) c.requires.stands c.requires.is_open over knows),
+        moves_none d.seen d.may_leave d.moment d.left_since c.args.disk.now c.args.engine.now base h (g.met.D.Disk.only_now c.args.disk.now) ready.stands ready.is_open over,
       );
-      stands = c.requires.stands;
-      serves = c.requires.serves;
-      is_open = c.requires.is_open;
-      version = c.requires.version;
+      ready = ready;
       told = refl;
       limit = refl;
       rule = refl;
@@ -45,6 +42,7 @@ pub events-preserved : goal.events-preserved
 events-preserved g c =
     let d = g.D.Disk in
     let before = c.events.invariant in
+    let went = c.visit.ensures.goes_on in
     elim c.match-visit.branch [
       | in-Had+in_default w ↦
           let none = sym w.end_breaks.ensures ∙ w.in_default.is in
@@ -56,23 +54,19 @@ events-preserved g c =
           record {
             so_far = λ base h over.
                 let so_far = before.so_far base h over in
-                let turn = w.in-Had.ensures.visit base so_far.0 so_far.4 in
-                let here = visit_here _ _ (at_any_call g.C.Clock.gives) c.args.login.now base _ _ _ _ _ _ before.told before.rule before.limit _ _ _ (came.Had w.in-Had.first w.in-Had.last w.in-Had.end) _ _ turn.1 in (
+                let turn = w.in-Had.ensures.visit base so_far.0 (so_far.4.over before.ready.is_open) in
+                let here = visit_here _ _ g.C.Clock.gives c.args.login.now base _ _ _ _ _ _ before.told before.rule before.limit _ _ so_far.0 _ _ _ _ _ (came.Had w.in-Had.first w.in-Had.last w.in-Had.end) turn.0 _ _ _ _ _ turn.1 in (
                   turn.0,
                   so_far.1 ++ Had here.0 ∷ [],
-                  going_had _ _ _ _ _ so_far.1 _ _ here.0 w.in-Had.end _ _ _ so_far.2 here.3 none here.4 here.5 here.6 turn.3,
+                  going_had _ _ _ _ _ _ so_far.1 _ here.0 w.in-Had.end _ (goes_by d.moment d.left_since c.events.disk c.visit.new.disk base so_far.0 turn.0 _ (λ knows. turn.2.any_moment (before.told ∙ knows))) so_far.2 here.3 none here.4 here.5 turn.2.front,
                   counted_had so_far.1 here.0 w.in-Had.first w.in-Had.last _ _ _ _ _ so_far.3 here.1 here.2 taken_is over_is,
-                  turn.2 is_open,
-                  (λ knows. crash_more d.moment d.left_since _ _ _ base h so_far.0 turn.0 so_far.2.grew turn.3 (so_far.5 knows) (turn.4 (before.told ∙ knows))),
+                  moves_more d.seen d.moment d.left_since _ _ _ _ _ base h so_far.0 turn.0 before.told so_far.4 turn.2,
                 );
-            stands = c.visit.ensures.stands;
-            serves = c.visit.ensures.serves;
-            is_open = is_open;
-            version = c.visit.ensures.version is_open;
-            told = c.visit.ensures.told is_open ∙ before.told;
-            limit = c.visit.ensures.limit is_open ∙ before.limit;
+            ready = record { stands = went.stands; is_open = is_open; version = went.stays.version is_open ∙ before.ready.version; serves = went.serves };
+            told = went.stays.told is_open ∙ before.told;
+            limit = went.stays.limit is_open ∙ before.limit;
             rule = c.visit.ensures.rule ∙ before.rule;
-            counted = omega (arith, before.counted, c.visit.ensures.faults);
+            counted = let more = went.stays.faults in omega (arith, before.counted, more);
             few = within w.in-Had.first _ c.events.taken _ c.args.connections before.few taken_is w.in-Had.ensures.asked_for (ltb-true c.events.taken c.args.connections);
             taken = omega (arith, before.taken, counts.0, taken_is);
             over = omega (arith, before.over, counts.1, over_is);
@@ -85,22 +79,18 @@ events-preserved g c =
           record {
             so_far = λ base h over.
                 let so_far = before.so_far base h over in
-                let turn = w.in-Woke.ensures.visit base so_far.0 so_far.4 in (
+                let turn = w.in-Woke.ensures.visit base so_far.0 (so_far.4.over before.ready.is_open) in (
                   turn.0,
                   so_far.1 ++ Woke ∷ [],
-                  going_woke _ _ _ _ _ so_far.1 _ _ _ _ so_far.2 turn.1.0 turn.1.1,
+                  going_woke _ _ _ _ _ _ so_far.1 _ _ (goes_by d.moment d.left_since c.events.disk c.visit.new.disk base so_far.0 turn.0 _ (λ knows. turn.2.any_moment (before.told ∙ knows))) so_far.2 (same_here _ _ before.told so_far.0 _ _ _ _ turn.0 _ _ _ _ turn.1.0) turn.1.1,
                   counted_woke so_far.1 _ _ _ _ _ so_far.3 w.taken-is w.over-is,
-                  turn.2 is_open,
-                  (λ knows. crash_more d.moment d.left_since _ _ _ base h so_far.0 turn.0 so_far.2.grew turn.3 (so_far.5 knows) (turn.4 (before.told ∙ knows))),
+                  moves_more d.seen d.moment d.left_since _ _ _ _ _ base h so_far.0 turn.0 before.told so_far.4 turn.2,
                 );
-            stands = c.visit.ensures.stands;
-            serves = c.visit.ensures.serves;
-            is_open = is_open;
-            version = c.visit.ensures.version is_open;
-            told = c.visit.ensures.told is_open ∙ before.told;
-            limit = c.visit.ensures.limit is_open ∙ before.limit;
+            ready = record { stands = went.stands; is_open = is_open; version = went.stays.version is_open ∙ before.ready.version; serves = went.serves };
+            told = went.stays.told is_open ∙ before.told;
+            limit = went.stays.limit is_open ∙ before.limit;
             rule = c.visit.ensures.rule ∙ before.rule;
-            counted = omega (arith, before.counted, c.visit.ensures.faults);
+            counted = let more = went.stays.faults in omega (arith, before.counted, more);
             few = let same = w.taken-is in omega (arith, same, before.few);
             taken = let same = w.taken-is in omega (arith, same, before.taken, counts.0);
             over = let same = w.over-is in omega (arith, same, before.over, counts.1);
@@ -117,9 +107,10 @@ returns-then-over-connections-clause-served g c base h over =
     let over_all : c.events.over ≡ c.args.connections = omega arith in
     let taken_all : c.events.taken ≡ c.args.connections = omega (arith, over_all, before.few, before.taken, before.over, before.back, c.requires.door, c.requires.none_kept) in (
       so_far.0,
-      served_open _ _ _ _ _ so_far.1 _ _ _ _ _ _ _ so_far.2 (so_far.2.none, so_far.3.firsts_is ∙ taken_all, so_far.3.lasts_is ∙ over_all)
-          (λ knows. images_open d.seen d.may_leave c.events.disk c.events.engine base so_far.0 before.stands before.is_open so_far.4 (before.told ∙ knows))
-          so_far.5 (size_told d.seen d.may_leave c.events.disk c.events.engine before.stands before.is_open) (λ e. cc) (λ e. cc),
+      served_open _ _ _ _ _ so_far.1 _ _ so_far.2 (so_far.2.none, so_far.3.firsts_is ∙ taken_all, so_far.3.lasts_is ∙ over_all)
+          (λ knows. images_open d.seen d.may_leave c.events.disk c.events.engine base so_far.0 before.ready.stands before.ready.is_open (so_far.4.over before.ready.is_open) (before.told ∙ knows))
+          (leaves d.moment d.left_since c.args.disk.now c.events.disk (IsBetween base h so_far.0) _ so_far.4.any_moment)
+          (size_told d.seen d.may_leave c.events.disk c.events.engine before.ready.stands before.ready.is_open) (λ e. cc) (λ e. cc),
     )
 
 pub returns-clause-served : goal.returns-clause-served
@@ -129,26 +120,29 @@ returns-clause-served g c base h over =
     let so_far = before.so_far base h over in
     let all : c.events._event ≡ 18446744073709551615 = omega arith in (
       so_far.0,
-      served_open _ _ _ _ _ so_far.1 _ _ _ _ _ _ _ so_far.2 (so_far.2.none, so_far.3.all_is ∙ all)
-          (λ knows. images_open d.seen d.may_leave c.events.disk c.events.engine base so_far.0 before.stands before.is_open so_far.4 (before.told ∙ knows))
-          so_far.5 (size_told d.seen d.may_leave c.events.disk c.events.engine before.stands before.is_open) (λ e. cc) (λ e. cc),
+      served_open _ _ _ _ _ so_far.1 _ _ so_far.2 (so_far.2.none, so_far.3.all_is ∙ all)
+          (λ knows. images_open d.seen d.may_leave c.events.disk c.events.engine base so_far.0 before.ready.stands before.ready.is_open (so_far.4.over before.ready.is_open) (before.told ∙ knows))
+          (leaves d.moment d.left_since c.args.disk.now c.events.disk (IsBetween base h so_far.0) _ so_far.4.any_moment)
+          (size_told d.seen d.may_leave c.events.disk c.events.engine before.ready.stands before.ready.is_open) (λ e. cc) (λ e. cc),
     )
 
 pub returns-in-NoLink-clause-served : goal.returns-in-NoLink-clause-served
 returns-in-NoLink-clause-served g c base h over =
     let d = g.D.Disk in
     let before = c.events.invariant in
+    let went = c.visit.ensures.goes_on in
     let so_far = before.so_far base h over in
-    let turn = c.in-NoLink.ensures.visit base so_far.0 so_far.4 in
+    let turn = c.in-NoLink.ensures.visit base so_far.0 (so_far.4.over before.ready.is_open) in
+    let moves = moves_more d.seen d.moment d.left_since _ _ _ _ _ base h so_far.0 turn.0 before.told so_far.4 turn.2 in
     let is_open = c.in-NoLink.ensures.live (none-some _) (none-some _) in
     let few = ltb-true c.events.taken c.args.connections c.in-NoLink.ensures.asked_for in
     let rose = turn.1.2 in (
       turn.0,
-      served_open _ _ _ _ _ so_far.1 _ _ _ _ _ _ _ (going_same _ _ _ _ _ so_far.1 _ _ _ _ so_far.2 turn.1.0 turn.1.1)
+      served_open _ _ _ _ _ so_far.1 _ _ (going_same _ _ _ _ _ _ so_far.1 _ _ (goes_by d.moment d.left_since c.events.disk c.visit.new.disk base so_far.0 turn.0 _ (λ knows. turn.2.any_moment (before.told ∙ knows))) so_far.2 (same_here _ _ before.told so_far.0 _ _ _ _ turn.0 _ _ _ _ turn.1.0) turn.1.1)
           (so_far.2.none, subst (λ n. n < c.args.connections) (sym so_far.3.firsts_is) few, omega (arith, before.failed, rose))
-          (λ knows. images_open d.seen d.may_leave c.visit.new.disk c.visit.new.engine base turn.0 c.visit.ensures.stands is_open (turn.2 is_open) (c.visit.ensures.told is_open ∙ (before.told ∙ knows)))
-          (λ knows. crash_more d.moment d.left_since _ _ _ base h so_far.0 turn.0 so_far.2.grew turn.3 (so_far.5 knows) (turn.4 (before.told ∙ knows)))
-          (size_told d.seen d.may_leave c.visit.new.disk c.visit.new.engine c.visit.ensures.stands is_open) (λ e. cc) (λ e. cc),
+          (λ knows. images_open d.seen d.may_leave c.visit.new.disk c.visit.new.engine base turn.0 went.stands is_open (moves.over is_open) (went.stays.told is_open ∙ (before.told ∙ knows)))
+          (leaves d.moment d.left_since c.args.disk.now c.visit.new.disk (IsBetween base h turn.0) _ moves.any_moment)
+          (size_told d.seen d.may_leave c.visit.new.disk c.visit.new.engine went.stands is_open) (λ e. cc) (λ e. cc),
     )
 
 pub returns-in-Some-clause-served : goal.returns-in-Some-clause-served
@@ -156,9 +150,10 @@ returns-in-Some-clause-served g c base h over =
     let d = g.D.Disk in
     let before = c.events.invariant in
     let so_far = before.so_far base h over in
-    let turn = c.in-Had.ensures.visit base so_far.0 so_far.4 in
-    let here = visit_here _ _ (at_any_call g.C.Clock.gives) c.args.login.now base _ _ _ _ _ _ before.told before.rule before.limit _ _ _ (came.Had c.in-Had.first c.in-Had.last c.in-Had.end) _ _ turn.1 in (
+    let turn = c.in-Had.ensures.visit base so_far.0 (so_far.4.over before.ready.is_open) in
+    let here = visit_here _ _ g.C.Clock.gives c.args.login.now base _ _ _ _ _ _ before.told before.rule before.limit _ _ so_far.0 _ _ _ _ _ (came.Had c.in-Had.first c.in-Had.last c.in-Had.end) turn.0 _ _ _ _ _ turn.1 in
+    let moves = moves_more d.seen d.moment d.left_since _ _ _ _ _ base h so_far.0 turn.0 before.told so_far.4 turn.2 in (
       turn.0,
-      served_broke _ _ _ _ _ so_far.1 _ _ here.0 c.in-Had.end c.in-Some.end _ _ _ _ _ _ here.3 (sym c.end_breaks.ensures ∙ c.in-Some.is) so_far.2 here.4 here.5 here.6 turn.3
-          (λ knows. crash_more d.moment d.left_since _ _ _ base h so_far.0 turn.0 so_far.2.grew turn.3 (so_far.5 knows) (turn.4 (before.told ∙ knows))),
+      served_broke _ _ _ _ _ so_far.1 _ here.0 c.in-Had.end c.in-Some.end _ _ here.3 (sym c.end_breaks.ensures ∙ c.in-Some.is) (goes_by d.moment d.left_since c.events.disk c.visit.new.disk base so_far.0 turn.0 _ (λ knows. turn.2.any_moment (before.told ∙ knows))) so_far.2
+          here.4 here.5 here.6 turn.2.front (leaves d.moment d.left_since c.args.disk.now c.visit.new.disk (IsBetween base h turn.0) _ moves.any_moment),
     )

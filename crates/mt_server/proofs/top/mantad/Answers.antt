@@ -1,11 +1,11 @@
 -- The run, by its status.
 use Rattle.std.proofs.Common.{◌≡◌, ◌⊎◌, ℕ, inl, inr, refl, ap, subst, sym, ◌∙◌}
-use Rattle.std.specs.Prelude.{IfSome}
+use Rattle.std.specs.Prelude.{IfSome, map, string_bytes}
 use Rattle.mt_engine.proofs.Openings.{not_both}
-use Rattle.mt_server.specs.Statuses.{ByBytes, IsUnopened, code_of}
+use Rattle.mt_server.specs.Statuses.{ByBytes, IsSilent, IsUnopened, code_of}
 use Rattle.mt_server.specs.declared.status.Status.{Status}
 use Rattle.mt_server.proofs.Settling.{ready_by}
-use Rattle.mt_server.proofs.Tops.{asked_of, all_links, disk_rose, fewer_links, is_ended, is_many, is_no_link, is_refused, is_served, is_silent, is_truncated, is_unopened, is_unreadable, is_usage, read_rose, serve_numbers, serve_silent, unopened_numbers, write_rose}
+use Rattle.mt_server.proofs.Tops.{asked_of, all_links, disk_rose, fewer_links, is_ended, is_many, is_no_link, is_refused, is_served, is_silent, is_truncated, is_unopened, is_unreadable, is_usage, not_usage, read_rose, serve_numbers, serve_silent, unopened_numbers, write_rose}
 use Rattle.mt_server.proofs.top.mantad.Goals as goal
 
 pub returns-clause-run : goal.returns-clause-run
@@ -18,7 +18,7 @@ pub returns-clause-early_usage : goal.returns-clause-early_usage
 returns-clause-early_usage g c is = let u = c.run.ensures.usage (is_usage c.run.result (sym c.code.ensures ∙ is)) in (u.1, u.2, u.3, u.4)
 
 pub returns-clause-early_unreadable : goal.returns-clause-early_unreadable
-returns-clause-early_unreadable g c is =
+returns-clause-early_unreadable g c settings wants is =
     let end = is_unreadable c.run.result (sym c.code.ensures ∙ is) in
     let facts = c.run.ensures.refused end.0 end.1 in
     let closed = c.run.ensures.unopened (subst (λ (s : Status). IsUnopened s) (sym end.1) tt) in
@@ -26,14 +26,11 @@ returns-clause-early_unreadable g c is =
 
 -- what is refused can't be read, so nothing was begun
 pub returns-clause-untouched : goal.returns-clause-untouched
-returns-clause-untouched g c files seen_is why refused =
+returns-clause-untouched g c settings wants files seen_is why refused =
     let closed = is_unopened c.run.result (λ begun. not_both files why refused (c.run.ensures.begun begun files seen_is)) in
-    let kept = c.run.ensures.unopened closed in (
-      kept.0,
-      kept.1,
-      (λ no_usage no_line. c.run.ensures.silent (is_silent c.run.result closed (λ e. no_usage (c.code.ensures ∙ e)) (λ e. no_line (c.code.ensures ∙ e)))),
-      (λ no_usage. kept.2 files seen_is),
-    )
+    let no_usage = not_usage (map string_bytes c.args.words.now) settings wants c.run.result (λ is. (c.run.ensures.usage is).0) in
+    let kept = c.run.ensures.unopened closed in
+    (kept.0, kept.1, refl, (λ no_line. c.run.ensures.silent (is_silent c.run.result closed no_usage (λ e. no_line (c.code.ensures ∙ e)))), kept.2 files seen_is)
 
 pub returns-clause-outside : goal.returns-clause-outside
 returns-clause-outside g c = (refl, c.run.ensures.source_stays, c.run.ensures.sink_stays, c.run.ensures.rule)
@@ -53,13 +50,20 @@ returns-clause-one g c is = (c.run.ensures.usage (is_usage c.run.result (sym c.c
 
 pub returns-clause-one_exactly : goal.returns-clause-one_exactly
 returns-clause-one_exactly g c fault is =
-    let facts = c.run.ensures.words fault is in
-    (elim facts.0 [ inl usage ↦ inl (c.code.ensures ∙ ap code_of usage) | inr memory ↦ inr (c.code.ensures ∙ ap code_of memory) ], facts.1, facts.2, facts.3)
+    let facts = c.run.ensures.words fault is in (
+      (elim facts.0 [ inl usage ↦ inl (c.code.ensures ∙ ap code_of usage) | inr memory ↦ inr (c.code.ensures ∙ ap code_of memory) ]),
+      facts.1,
+      facts.2,
+      facts.3,
+      (elim facts.0 [ inl usage ↦ inr (c.code.ensures ∙ ap code_of usage) | inr memory ↦ inl (c.run.ensures.silent (subst (λ (s : Status). IsSilent s) (sym memory) tt)) ]),
+      refl,
+    )
 
 pub returns-clause-two_exactly : goal.returns-clause-two_exactly
-returns-clause-two_exactly g c files seen_is why refused =
+returns-clause-two_exactly g c settings wants files seen_is why refused =
     let closed = is_unopened c.run.result (λ begun. not_both files why refused (c.run.ensures.begun begun files seen_is)) in
-    subst (λ (r : ℕ). (r ≡ 1) ⊎ (r ≡ 2) ⊎ (r ≡ 5) ⊎ (r ≡ 8)) (sym c.code.ensures) (unopened_numbers c.run.result closed)
+    let no_usage = not_usage (map string_bytes c.args.words.now) settings wants c.run.result (λ is. (c.run.ensures.usage is).0) in
+    subst (λ (r : ℕ). (r ≡ 2) ⊎ (r ≡ 5) ⊎ (r ≡ 8)) (sym c.code.ensures) (unopened_numbers c.run.result closed no_usage)
 
 pub returns-clause-three : goal.returns-clause-three
 returns-clause-three g c is = read_rose c.run.result _ _ _ _ (sym c.code.ensures ∙ is) c.run.ensures.by_link
@@ -88,13 +92,13 @@ pub returns-clause-zero : goal.returns-clause-zero
 returns-clause-zero g c settings wants is = subst (λ (s : Status). IfSome (g.S.Source.left c.args.source.now) (λ bytes. ByBytes bytes s)) (is_ended c.run.result (c.run.ensures.of_session settings wants).0 (sym c.code.ensures ∙ is)) c.run.ensures.by_bytes
 
 pub returns-clause-eleven : goal.returns-clause-eleven
-returns-clause-eleven g c is = subst (λ (s : Status). IfSome (g.S.Source.left c.args.source.now) (λ bytes. ByBytes bytes s)) (is_truncated c.run.result (sym c.code.ensures ∙ is)) c.run.ensures.by_bytes
+returns-clause-eleven g c settings wants is = subst (λ (s : Status). IfSome (g.S.Source.left c.args.source.now) (λ bytes. ByBytes bytes s)) (is_truncated c.run.result (sym c.code.ensures ∙ is)) c.run.ensures.by_bytes
 
 pub returns-clause-twelve : goal.returns-clause-twelve
-returns-clause-twelve g c is = subst (λ (s : Status). IfSome (g.S.Source.left c.args.source.now) (λ bytes. ByBytes bytes s)) (is_refused c.run.result (sym c.code.ensures ∙ is)) c.run.ensures.by_bytes
+returns-clause-twelve g c settings wants is = subst (λ (s : Status). IfSome (g.S.Source.left c.args.source.now) (λ bytes. ByBytes bytes s)) (is_refused c.run.result (sym c.code.ensures ∙ is)) c.run.ensures.by_bytes
 
 pub returns-clause-thirteen : goal.returns-clause-thirteen
-returns-clause-thirteen g c is = subst (λ (s : Status). IfSome (g.S.Source.left c.args.source.now) (λ bytes. ByBytes bytes s)) (is_many c.run.result (sym c.code.ensures ∙ is)) c.run.ensures.by_bytes
+returns-clause-thirteen g c settings wants is = subst (λ (s : Status). IfSome (g.S.Source.left c.args.source.now) (λ bytes. ByBytes bytes s)) (is_many c.run.result (sym c.code.ensures ∙ is)) c.run.ensures.by_bytes
 
 pub returns-clause-by_bytes : goal.returns-clause-by_bytes
 returns-clause-by_bytes g c settings wants = asked_of _ c.run.result _ c.code.ensures (c.run.ensures.of_session settings wants).0 c.run.ensures.by_bytes
