@@ -1,0 +1,17 @@
+pub mod Answered
+pub mod Awaits
+pub mod Crashes
+pub mod Drains
+pub mod Engines
+pub mod Fills
+pub mod Lists
+pub mod Moved
+pub mod Pairs
+pub mod Progressing
+pub mod Rights
+pub mod Stales
+pub mod Standing
+pub mod Takes
+pub mod Tasks
+pub mod Turns
+pub mod Works

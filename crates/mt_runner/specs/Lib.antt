@@ -1,0 +1,11 @@
+pub mod Account
+pub mod AtWork
+pub mod Attempts
+pub mod Attends
+pub mod Awaiting
+pub mod ByAnswer
+pub mod Filling
+pub mod Moves
+pub mod Progress
+pub mod Stale
+pub mod Turning

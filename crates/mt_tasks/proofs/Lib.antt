@@ -1,0 +1,15 @@
+pub mod Behind
+pub mod Came
+pub mod Closing
+pub mod Commits
+pub mod Fated
+pub mod Filling
+pub mod Growing
+pub mod Judges
+pub mod Looking
+pub mod Mapped
+pub mod Numbers
+pub mod Passing
+pub mod Rights
+pub mod Steps
+pub mod There

@@ -1,0 +1,10 @@
+pub mod Sizes
+pub mod Reading
+pub mod Fates
+pub mod Adding
+pub mod Launching
+pub mod Right
+pub mod Standing
+pub mod Storing
+pub mod Over
+pub mod Taking
