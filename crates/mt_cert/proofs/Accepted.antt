@@ -1,18 +1,11 @@
 -- The text of the certificate of a lawful, complete job is accepted.
-use Rattle.std.proofs.Common.{◌≡◌, ℕ, ◌≤◌, true, List, ◌∙◌}
-use Rattle.mt_path.specs.AccountPath.{IsLogin}
+use Rattle.std.proofs.Common.{◌∙◌}
 use Rattle.mt_types.specs.Values.{job_with}
-use Rattle.mt_model.specs.Types.{Job, MOST_COMMANDS}
-use Rattle.mt_model.specs.Keeping.{IsJob}
-use Rattle.mt_model.specs.Lawful.{LawfulJob}
-use Rattle.mt_model.specs.Tasks.{all_complete}
 use Rattle.mt_model.proofs.TasksWith.{all_complete-with}
 use Rattle.mt_certline.specs.Certificate.{certificate_of}
 use Rattle.mt_certline.specs.declared.line.Sum.{Sum}
-use Rattle.mt_checker.specs.Judge.{Accepted, judge}
-use Rattle.mt_checker.specs.Texts.{Fits, certificate_text}
 use Rattle.mt_checker.proofs.WrittenTexts.{written-accepted}
-use Rattle.mt_cert.specs.Accepting.{CertifyIsAccepted, IsHeld}
+use Rattle.mt_cert.specs.Accepting.{CertifyIsAccepted}
 use Rattle.mt_cert.proofs.Certificates.{adds_up}
 use Rattle.mt_cert.proofs.JobLines.{lines_are}
 use Rattle.mt_cert.proofs.Sounds.{sound_with}

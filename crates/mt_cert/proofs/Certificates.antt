@@ -22,7 +22,7 @@ use Rattle.mt_model.specs.Feed.{entries_of, feed, items_in, items_of}
 use Rattle.mt_model.specs.Finished.{outputs_of}
 use Rattle.mt_model.specs.Meaning.{IsEachTaskOnce, Means}
 use Rattle.mt_model.specs.Sound.{Sound}
-use Rattle.mt_model.specs.Tasks.{all_complete, phases_of}
+use Rattle.mt_model.specs.Tasks.{all_complete}
 use Rattle.mt_model.proofs.Traces.{once_each, some_same}
 
 unequal : (a b : ℕ) → a ≢ b → a == b ≡ false

@@ -1,6 +1,6 @@
 -- The lines of the certificate of a lawful job are lines, and its text is accepted.
-use Rattle.std.proofs.Common.{◌≡◌, ℕ, ◌+◌, ◌<◌, ◌≤◌, ◌^◌, ◌*◌, ◌==◌, nat_le, zero, suc, Bool, true, false, cond, ◌&&◌, List, [], ◌∷◌, ◌++◌, map, length, Option, Some, None, refl, sym, ap, subst, ◌∙◌, arith}
-use Rattle.std.specs.Prelude.{◌%◌, All, IfSome, IsTrue, ⊤}
+use Rattle.std.proofs.Common.{◌≡◌, ℕ, ◌+◌, ◌<◌, ◌≤◌, ◌^◌, ◌*◌, ◌==◌, zero, suc, Bool, true, false, cond, List, [], ◌∷◌, ◌++◌, map, length, sym, ap, subst, ◌∙◌, arith}
+use Rattle.std.specs.Prelude.{◌%◌, All, IfSome}
 use Rattle.std.specs.List.{AllByRecursion, enumerate_from, filter, flat_map}
 use Rattle.std.proofs.lemmas.Bool.{and_from, le-leb}
 use Rattle.std.proofs.lemmas.List.{length-map}
@@ -9,31 +9,29 @@ use Rattle.std.proofs.lemmas.List.Elements.{recursion_from_All}
 use Rattle.mt_path.specs.AccountPath.{AccountPath, IsPath}
 use Rattle.mt_path.proofs.Components.{test_from_IsComponent}
 use Rattle.mt_types.specs.Values.{item_with, job_with, outcome_with, trace_entry_with}
-use Rattle.mt_types.specs.WellMade.{IsDocument}
 use Rattle.mt_types.specs.declared.document.Phase.{Phase}
 use Rattle.mt_types.specs.declared.document.PhaseKind.{PhaseKind}
 use Rattle.mt_types.specs.declared.document.PhaseKind.TheVariants.{Map, Reduce}
 use Rattle.mt_types.specs.declared.job.Outcome.{Outcome}
 use Rattle.mt_types.specs.declared.job.Outcome.TheVariants as outcome
 use Rattle.mt_model.specs.Types.{Item, Job, MOST_COMMANDS, TraceEntry}
-use Rattle.mt_model.specs.Feed.{entries_of, feed, items_in, items_of}
+use Rattle.mt_model.specs.Feed.{entries_of, feed, items_of}
 use Rattle.mt_model.specs.Finished.{outputs_of}
 use Rattle.mt_model.specs.Keeping as limits
 use Rattle.mt_model.specs.Lawful.{LawfulItem, LawfulJob}
-use Rattle.mt_model.specs.Tasks.{all_complete, phases_of, reducer_of, share_places}
+use Rattle.mt_model.specs.Tasks.{phases_of, reducer_of, share_places}
 use Rattle.mt_model.proofs.TasksWith.{feed-with}
 use Rattle.mt_certline.specs.Certificate.{Certificate, certificate_of, good_items, lines_of, listed_in, listed_of, reads_of}
 use Rattle.mt_certline.specs.Laws.{IsBegin, IsItem, IsLine, IsListed, IsWhole}
-use Rattle.mt_certline.specs.Read.{is_root}
 use Rattle.mt_certline.specs.declared.line.Line.{Line}
-use Rattle.mt_certline.specs.declared.line.Line.TheVariants.{Begin, End, Input, Output, Task}
+use Rattle.mt_certline.specs.declared.line.Line.TheVariants.{End, Input, Output, Task}
 use Rattle.mt_certline.specs.declared.line.Listed.{Listed}
 use Rattle.mt_certline.specs.declared.line.Sum.{Sum}
 use Rattle.mt_cert.specs.Accepting.{IsHeld, IsSum}
 
 -- ---- lists
 
-every_append : {A : Type 0} (P : A → Type 0) (xs ys : List A) → AllByRecursion P xs → AllByRecursion P ys → AllByRecursion P (xs ++ ys)
+pub every_append : {A : Type 0} (P : A → Type 0) (xs ys : List A) → AllByRecursion P xs → AllByRecursion P ys → AllByRecursion P (xs ++ ys)
 every_append P [] ys first second = second
 every_append P (x ∷ xs) ys first second = (first.0, every_append P xs ys first.1 second)
 

@@ -2,3 +2,9 @@ mod Certificates
 mod Sounds
 mod JobLines
 mod Accepted
+mod Puttings
+mod Parts
+mod Layings
+mod Holdings
+mod Fittings
+mod Wholes

@@ -1,6 +1,6 @@
 -- A job is sound, and complete, whatever its bodies are.
 use Rattle.std.proofs.Common.{◌≡◌, ℕ, true, false, List, [], ◌∷◌, map, Option, Some, None, refl, sym, ap, subst, ◌∙◌}
-use Rattle.std.specs.Prelude.{take, zero, suc}
+use Rattle.std.specs.Prelude.{take}
 use Rattle.std.specs.List.{slice_get}
 use Rattle.std.specs.List.Sorted.{IsStrictlySortedBy}
 use Rattle.std.specs.Ordering.{nat_cmp}
@@ -10,7 +10,7 @@ use Rattle.std.proofs.lemmas.Option.{slice_get-map}
 use Rattle.mt_types.specs.Values.{job_with, trace_entry_with}
 use Rattle.mt_model.specs.Types.{Job, TraceEntry}
 use Rattle.mt_model.specs.Sound.{Sound, before}
-use Rattle.mt_model.specs.Tasks.{all_complete, is_committed, is_task}
+use Rattle.mt_model.specs.Tasks.{is_committed, is_task}
 use Rattle.mt_model.proofs.TasksWith.{all_complete-with, is_committed-with, is_task-with}
 
 module _ {A B : Type 0} (f : A → B) where

@@ -1,0 +1,6 @@
+use Rattle.std.proofs.Common.{◌≡◌, [], replicate}
+use Rattle.mt_feeds.specs.Kept.{lists_of}
+use Rattle.mt_cert.proofs.shares.no_places.Given as goal
+
+abbrev pub invariant-loop-list : goal.invariant-loop-list
+invariant-loop-list l = lists_of l.lists ≡ replicate l._list []
