@@ -130,7 +130,8 @@ class Ends:
     def __init__(self, data, failing=None, call=None, taken=0, room=1 << 26):
         self.data, self.failing, self.call, self.room = data, failing, call, room
         self.calls = {"source": 0, "sink": 0, "spool": 0}
-        self.got, self.files, self.taken = b"", [], taken
+        # a tool looks for the number of each record behind that of the last
+        self.got, self.files, self.taken, self.next = b"", [], taken, 0
 
     def count(self, which):
         self.calls[which] += 1
@@ -147,11 +148,11 @@ class Ends:
         self.got += piece
 
     def create(self):
-        numbers = {n for n, _ in self.files}
-        for number in range(4095):
+        for number in range(self.next, 4095):
             self.count("spool")
-            if number >= self.taken and number not in numbers:
+            if number >= self.taken:
                 self.files.append((number, b""))
+                self.next = number + 1
                 return
         raise Failed(6)
 
@@ -274,7 +275,7 @@ def main():
     for which, last in (("source", 2), ("sink", 1), ("spool", 4)):
         for call in range(last + 1):
             row(f"fails {which} {call} hi", Ends(b"hi", which, call), [b"l", b"mtee", b"/l/stor/a"])
-    for which, call, words in (("source", 0, "l msplit -n 2"), ("source", 1, "l msplit -n 2"), ("spool", 0, "l msplit -n 2"), ("spool", 1, "l msplit -n 2"), ("spool", 2, "l msplit -n 2"), ("spool", 4, "l msplit -n 2"),
+    for which, call, words in (("source", 0, "l msplit -n 2"), ("source", 1, "l msplit -n 2"), ("spool", 0, "l msplit -n 2"), ("spool", 1, "l msplit -n 2"), ("spool", 2, "l msplit -n 2"), ("spool", 3, "l msplit -n 2"),
                                ("source", 0, "l mcat /l/stor/a"), ("sink", 0, "l mpipe"), ("spool", 1, "l mcat /l/stor/a"), ("source", 0, "l mpipe x")):
         row(f"fails {which} {call} hi", Ends(b"hi", which, call), [it.encode() for it in words.split()])
 
