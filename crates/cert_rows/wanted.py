@@ -1,7 +1,8 @@
 #!/usr/bin/env python3
 """Prints the table of cert_rows with the wanted answers: lines are judged by Python's json, base64 and uuid, by the forms that API.md and the README of
-mt_certline list, and certificates by the rules that the README of mt_checker lists, over whole lists."""
+mt_certline list, and certificates by the rules that the README of mt_checker lists, over whole lists; those of jobs are made so, too."""
 import base64
+import hashlib
 import json
 import re
 
@@ -177,7 +178,7 @@ class Listed:
 
     def __init__(self):
         self.phases = None
-        self.inputs, self.tasks, self.outputs, self.over = [], [], [], False
+        self.inputs, self.tasks, self.outputs, self.made, self.over = [], [], [], [], False
 
     def feed(self, phase):
         if phase == 0:
@@ -203,7 +204,14 @@ class Listed:
         return None
 
     def names(self):
-        return [item["name"] for item in self.feed(len(self.phases))]
+        """The names of the outputs; behind one of them no task may stand."""
+        if not self.outputs:
+            self.made = [item["name"] for item in self.feed(len(self.phases))]
+        return self.made
+
+    def is_next(self, name):
+        names = self.names()
+        return len(self.outputs) < len(names) and names[len(self.outputs)] == name
 
     def follows(self, task):
         phase = self.open()
@@ -224,7 +232,7 @@ class Listed:
             self.inputs.append(value["input"])
         elif name == "task" and not self.outputs and self.follows(value):
             self.tasks.append(value)
-        elif name == "output" and self.open() is None and self.names()[len(self.outputs):][:1] == [value["output"]]:
+        elif name == "output" and self.open() is None and self.is_next(value["output"]):
             self.outputs.append(value["output"])
         elif name == "end" and self.open() is None and self.outputs == self.names():
             self.over = True
@@ -576,6 +584,158 @@ def checks():
             whole += t.encode() + b"\n"
             row(f"put {t}", len(whole))
         row("check", verdict(whole))
+    jobs()
+
+
+PAGE = 65536
+
+
+def word(text):
+    return escaped(text.encode()).replace(" ", "\\s")
+
+
+def compact(value):
+    return json.dumps(value, sort_keys=True, separators=(",", ":"), ensure_ascii=False)
+
+
+class Job:
+    """A job of mt_cert's rows: its certificate lists the tasks phase by phase, each with what it read."""
+
+    def __init__(self, phases, number=4096):
+        self.number, self.listed = number, Listed()
+        self.listed.phases = json.loads(phases)
+        text = '{"phases":' + phases + "}"
+        row(f"job-bytes {number} {word(text)}" if "\\" in text else f"job {number} {text}", "begun")
+
+    def list(self, text, times=1):
+        name, value = parsed(text.encode())
+        for _ in range(times):
+            self.listed.inputs.append(value["input"]) if name == "input" else self.listed.tasks.append(value)
+        row(f"list-bytes {word(text)}" if "\\" in text else f"list {text}" if times == 1 else f"list-many {times} {text}", "listed")
+
+    def more(self, times):
+        """The last task gets its last output so many times more."""
+        items = self.listed.tasks[-1]["items"]
+        items.extend(items[-1:] * times)
+        row(f"more {times}", "listed")
+
+    def lines(self):
+        raw = f"{2**63 + self.number:016x}"
+        yield compact({"certificate": 1, "id": f"00000002-0000-8000-{raw[:4]}-{raw[4:]}", "phases": self.listed.phases})
+        for item in self.listed.inputs:
+            yield compact({"input": item})
+        for phase in range(len(self.listed.phases)):
+            for task in self.listed.tasks:
+                if task["phase"] == phase:
+                    yield compact({**task, "reads": self.listed.share(phase, task["place"])})
+        for name in self.listed.names():
+            yield compact({"output": name})
+        yield compact({"end": True})
+
+    def fits(self):
+        lines = list(self.lines())
+        row("fits", "true" if len(lines) <= MOST_LINES and all(len(l.encode()) < LONGEST_LINE for l in lines) else "false")
+
+    def certify(self, shown=True, room=1048576, most=None, fails=None):
+        """The certificate, in pages; what is written of it is checked."""
+        pages, page = [], b""
+        for text in self.lines():
+            page += text.encode() + b"\n"
+            if PAGE <= len(page):
+                pages, page = pages + [page], b""
+        written, calls, end = b"", 0, "whole"
+        for page in pages + [page] * bool(page):
+            while page and end == "whole":
+                calls += 1
+                if fails == calls - 1 or room == len(written):
+                    end = "sink fault"
+                    break
+                took = page[:min(most or len(page), room - len(written))]
+                written, page = written + took, page[len(took):]
+        words = f" most {most}" if most else f" write {fails}" if fails is not None else f" room {room}" if room != 1048576 else ""
+        row(f"certify{words}", f"{end} {len(written)} {calls}")
+        if shown:
+            row("written", escaped(written))
+        row("check", verdict(written))
+        return written
+
+
+def jobs():
+    print("\n# The certificate of a job: a map phase over an object that was posted twice.")
+    job = Job(f"[{MAP}]")
+    for text in map_job()[1:5]:
+        job.list(text)
+    job.fits()
+    data = job.certify()
+    assert data.decode().split("\n")[:-1] == map_job() and len(data) == 1012
+    assert hashlib.md5(data).hexdigest() == "5bba4a9727f5852da38448cb420936c7"
+    for most in (1012, 1011, 1):
+        job.certify(shown=False, most=most)
+    job.certify(shown=False, fails=0)
+    for room in (1012, 1011, 1, 0):
+        job.certify(shown=room == 1, room=room)
+
+    print("\n# Two phases, committed by turns, are listed one behind the other, and each task with what it read, whatever it is said to have read here.")
+    job = Job(f"[{MAP},{reduce_phase(2)}]", number=2**62 - 4096)
+    both = two_phases()
+    for place in (2, 3, 4, 5, 6, 7, 8, 9):
+        job.list(changed(both, place, both[place - 1], re.sub('"reads":.*]', '"reads":[7]', both[place - 1]))[place - 1])
+    job.fits()
+    job.certify()
+    job = Job(f"[{MAP},{MAP}]")
+    for text in (an_input("a"), an_input("b"), a_task(f"[{made_at('a', 3)}]"), a_task(f"[{made_at('a', 4)}]", phase="1", position="4"),
+                 a_task(f"[{made_at('b', 5)}]", place="1", position="5", reads="[1]"), a_task(phase="1", place="1", position="6", state='"failed"')):
+        job.list(text)
+    job.fits()
+    job.certify()
+
+    print("\n# Reducers: items that name one, and those that don't; failed tasks among the others; a reducer over nothing.")
+    for count in (1, 2, 3, 1024):
+        job = Job(f"[{reduce_phase(count)},{reduce_phase(2)}]")
+        for name, reducer in (("a", None), ("b", 0), ("c", None), ("d", 4294967295), ("e", 1), ("f", None)):
+            job.list(an_input(name, reducer=reducer))
+        for place in range(min(count, 3)):
+            items = f"[{made_at('reduce', 3 + place)},{made_at('x', 3 + place, reducer=place)}]"
+            job.list(a_task(items, place=str(place), position=str(3 + place)) if place != 1 else a_task(place="1", position="4", state='"failed"'))
+        for place in range(2):
+            job.list(a_task(f"[{made_at('reduce', 9 + place)}]", phase="1", place=str(place), position=str(9 + place)))
+        job.fits()
+        job.certify()
+
+    print("\n# A job that isn't complete has a certificate that is refused.")
+    job = Job(f"[{MAP}]")
+    job.list(an_input("a"))
+    job.fits()
+    job.certify()
+
+    print("\n# Phases, names and roots with what JSON escapes.")
+    job = Job(f'[{{"assets":["/l/stor/\\"x\\\\"],"exec":"a\\"b\\\\c\\n\\u0001","init":"é","type":"map"}},{MAP}]', number=0)
+    job.list(an_input('"\\é'))
+    job.list(a_task(f"[{made_at(chr(34) + 'é', 3)}]"))
+    job.list(a_task(f"[{made_at(chr(34) + 'é', 4)}]", phase="1", position="4"))
+    job.fits()
+    job.certify()
+
+    print("\n# Pages of 65,536 bytes: a write a page, and what is left.")
+    for times in (600, 601, 700, 2000):
+        job = Job(f"[{reduce_phase(1)}]")
+        job.list(an_input("a" * 50), times)
+        job.list(a_task(f"[{made_at('a', 3)}]"))
+        job.fits()
+        job.certify(shown=False)
+        job.certify(shown=False, fails=1)
+
+    print("\n# A line of 16,777,215 bytes without its line feed is within the limits, and a longer one is not.")
+    once = len(an_item()) + 1
+    for wanted in (LONGEST_LINE - 1, LONGEST_LINE):
+        times, root = divmod(wanted - len(a_task(f"[{an_item(root='')},{an_item()}]")), once)
+        job = Job(f"[{MAP}]")
+        job.list(an_input("a"))
+        job.list(a_task(f"[{an_item(root='r' * root)},{an_item()}]"))
+        job.more(times)
+        assert len(list(job.lines())[2]) == wanted
+        job.fits()
+        job.certify(shown=False, room=40000000)
 
 
 main()

@@ -52,6 +52,13 @@ impl Checks {
         })
     }
 
+    /// These bytes, and no others.
+    pub fn hold(&mut self, bytes: &[u8]) -> Result<(), Stop> {
+        self.bytes.clear();
+        self.bytes.extend_from_slice(bytes)?;
+        Ok(())
+    }
+
     // These bytes more.
     fn put(&mut self, bytes: &[u8], out: &mut String) -> Result<(), Stop> {
         self.bytes.extend_from_slice(bytes)?;

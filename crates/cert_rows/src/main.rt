@@ -1,12 +1,14 @@
 //! `cert_rows`: the calls of the crates of certificates, row by row. Its stored run is their table of cases.
 //!
-//! - `lines`: `mt_certline`. `checks`: `mt_checker`.
+//! - `lines`: `mt_certline`. `checks`: `mt_checker`. `jobs`: `mt_cert`.
 #![tactic(auto)]
 
 mod checks;
+mod jobs;
 mod lines;
 
 use checks::Checks;
+use jobs::Jobs;
 use mt_rows::{Row, Rows, Stop, print_table};
 use std::alloc::Global;
 use std::io;
@@ -14,6 +16,7 @@ use std::io;
 #[derive(Drop)]
 struct Certificates {
     checks: Option<Checks>,
+    jobs: Option<Jobs>,
 }
 
 // What stands behind the first word of a line, as it stands.
@@ -21,6 +24,27 @@ fn behind(line: &str) -> &str {
     match line.split_once(' ') {
         Some((_call, rest)) => rest,
         None => "",
+    }
+}
+
+impl Certificates {
+    // The answer to a row of `mt_cert`. What is written of a job is what is checked next.
+    fn of_job(
+        &mut self,
+        alloc: Global,
+        text: &str,
+        row: &Row,
+        out: &mut String,
+    ) -> Result<(), Stop> {
+        let mut jobs = self.jobs.take().unwrap_or(Jobs::new(alloc));
+        let done = jobs.answer(alloc, text, row, out);
+        if matches!(row.text(0), Ok("certify")) {
+            let mut checks = Checks::new(alloc)?;
+            checks.hold(jobs.written())?;
+            self.checks = Some(checks);
+        }
+        self.jobs = Some(jobs);
+        done
     }
 }
 
@@ -33,8 +57,20 @@ impl Rows for Certificates {
         out: &mut String,
     ) -> Result<(), Stop> {
         let text = behind(line);
-        if matches!(row.text(0)?, "line" | "line-bytes") {
-            return lines::answer(alloc, text, row, out);
+        match row.text(0)? {
+            "line" | "line-bytes" => return lines::answer(alloc, text, row, out),
+            "job"
+            | "job-bytes"
+            | "list"
+            | "list-bytes"
+            | "list-many"
+            | "more"
+            | "fits"
+            | "certify"
+            | "written" => {
+                return self.of_job(alloc, text, row, out);
+            }
+            _ => {}
         }
         if self.checks.is_none() {
             self.checks = Some(Checks::new(alloc)?);
@@ -47,5 +83,9 @@ impl Rows for Certificates {
 }
 
 fn main(rt: HostRuntime) -> io::Result<()> {
-    print_table(&rt, &mut Certificates { checks: None })
+    let mut certificates = Certificates {
+        checks: None,
+        jobs: None,
+    };
+    print_table(&rt, &mut certificates)
 }
