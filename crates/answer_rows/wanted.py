@@ -679,12 +679,47 @@ def job_bodies(t):
     t.brief("GET", f"{live}status")
 
 
+def job_faults(t):
+    t.note("A command on jobs is one record: its head, its bytes, the end, a sync, the gate and a sync. A text that isn't empty is one before it, head and bytes.")
+    print("# The call that fails closes the store; when it is opened again, what was posted is there only where the last sync was the one that failed.")
+    live = job_path(1, "/live/")
+    lines = b"/l/stor/a\nno path\n"
+    posts = (("/l/jobs", CAT, 6), (f"{live}in", lines, 6), (f"{live}in/end", b"", 6), (f"{live}cancel", b"", 14))
+    for made, (target, body, calls) in enumerate(posts):
+        for failing in range(calls):
+            t.new()
+            t.put("/l/stor/a", b"1")
+            for before, data, _ in posts[:min(made, 2)]:
+                t.brief("POST", before, data)
+            print(f"fail disk {failing}")
+            answered(f"try POST {target} {word(body)}", "Disk; closed")
+            if failing == calls - 1:
+                t.store.ask(t.request("POST", target, body, []))
+            t.open()
+            t.brief("GET", "/l/jobs?state=running")
+            for text in ("status", "in", "fail")[:3 if made else 1]:
+                t.brief("GET", live + text)
+            if target.endswith("cancel"):
+                t.brief("GET", job_path(1))
+    t.note("A read of the source that fails within what is posted, behind those of the head, of a byte each: nothing is made, and nothing stays.")
+    t.new()
+    t.put("/l/stor/a", b"1")
+    t.brief("POST", "/l/jobs", CAT)
+    large = b'{"phases":[{"exec":"cat"}],"more":"' + b"x" * 150_000 + b'"}'
+    for target, body in (("/l/jobs", large), (f"{live}in", b"x" * 150_000), (f"{live}in/end", b"x" * 150_000), (f"{live}cancel", b"x" * 150_000)):
+        head = len(t.request("POST", target, body, [])) - len(body)
+        for failing in (0, 1, 2):
+            print(f"fail reads {head + failing}")
+            answered(f"try POST {target} {word(body)}", f"SourceFault{t.after()}")
+        t.brief("GET", f"{live}status")
+
+
 def main():
     print("# Requests and what they are answered, by `python3 wanted.py`. `store`: a new one whose log may have so many bytes; `open`: the same")
     print("# opened again. `ask`: the request above it, the length of the log and the number of commands after it, and the reply. `try`: a")
     print("# request in a row, METHOD TARGET BODY FIELD .., and the status with what the reply holds, or the part of an object that it names.")
     t = Table()
-    for part in (objects, tree, pages, conditions, ranges, digests, targets, browsers, two_at_once, space, endings, jobs, listings, job_targets, job_order, job_bodies, faults):
+    for part in (objects, tree, pages, conditions, ranges, digests, targets, browsers, two_at_once, space, endings, jobs, listings, job_targets, job_order, job_bodies, faults, job_faults):
         part(t)
 
 

@@ -1,4 +1,4 @@
--- The account takes the command of a request that isn't refused.
+-- The account takes the command of a request that isn't refused, and its paths are paths.
 use Rattle.std.proofs.Common.{◌≡◌, ℕ, ◌==◌, Bool, true, false, List, length, codes, bytes_eq, Option, Some, None, option_map, Result, Ok, Err, refl, sym, ap, subst, ◌∙◌, if◌then◌else◌}
 use Rattle.std.proofs.lemmas.Option.{same_Some}
 use Rattle.mt_ident.specs.Identifiers.{identifier_number}
@@ -13,7 +13,7 @@ use Rattle.mt_model.specs.CommandStep.{allowed, outside_jobs}
 use Rattle.mt_model.specs.Rows.{Rows, at, first_refusal, is_directory, link_refusal, make_directory_refusal, object_at, put_refusal, refuse_if, remove_refusal}
 use Rattle.mt_model.specs.State.{State}
 use Rattle.mt_model.specs.UploadSteps.{is_jobs}
-use Rattle.mt_path.specs.AccountPath.{AccountPath}
+use Rattle.mt_path.specs.AccountPath.{AccountPath, IsPath}
 use Rattle.mt_path.specs.declared.area.Area.{Area}
 use Rattle.mt_path.specs.declared.area.Area.TheVariants as area
 use Rattle.mt_request.specs.Digest.{digest_refusal, wish_of}
@@ -40,40 +40,44 @@ use Rattle.mt_types.specs.declared.live.JobStand.{JobStand}
 use Rattle.mt_types.specs.declared.live.LiveText.TheVariants as live
 use Rattle.mt_store.specs.Decisions.{decided, delete_decision, link_decision, put_decision, verdict_on}
 use Rattle.mt_types.specs.Fields.{first_value}
-use Rattle.mt_types.specs.declared.body.Body.{Body}
 use Rattle.mt_types.specs.declared.command.Command.{Command}
 use Rattle.mt_types.specs.declared.object.Field.{Field}
 use Rattle.mt_types.specs.declared.refusal.Refusal.{Refusal}
 use Rattle.mt_types.specs.declared.refusal.Refusal.TheVariants.{RootDirectory}
 use Rattle.mt_answer.specs.Answer.{command_of, make_command}
-use Rattle.mt_answer.specs.Judging.{account_refusal, code_of, directory_refusal, len_of, refusal_of, refused_by}
+use Rattle.mt_answer.specs.Judging.{account_refusal, code_of, directory_refusal, refusal_of, refused_by}
 use Rattle.mt_answer.proofs.Order.{last_of_four}
+use Rattle.mt_answer.proofs.Paths.{target_path}
 
 -- ---- where a request may change something
 
--- what is asked changes nothing in the area of jobs
-abbrev IsOutside : Doing → Type 0
+-- a path outside the area of jobs
+abbrev pub IsOwn : AccountPath → Type 0
+IsOwn p = (is_jobs p.area ≡ false) × IsPath p
+
+-- what is asked changes nothing in the area of jobs, and names paths
+abbrev pub IsOutside : Doing → Type 0
 IsOutside doing.Nothing = Unit {0}
-IsOutside (doing.PutObject p content_type durability metadata) = is_jobs p.area ≡ false
-IsOutside (doing.PutDirectory p) = is_jobs p.area ≡ false
-IsOutside (doing.PutLink p source) = is_jobs p.area ≡ false
-IsOutside (doing.Remove p) = is_jobs p.area ≡ false
+IsOutside (doing.PutObject p content_type durability metadata) = IsOwn p
+IsOutside (doing.PutDirectory p) = IsOwn p
+IsOutside (doing.PutLink p source) = IsOwn p × IsPath source
+IsOutside (doing.Remove p) = IsOwn p
 IsOutside (doing.Look p page range) = Unit {0}
 
-linked : (p : AccountPath) (source : Result AccountPath ErrorCode) → is_jobs p.area ≡ false → IsOutside (link_to p source)
-linked p (Ok source) out = out
-linked p (Err code) out = tt
+linked : (p : AccountPath) (source : Result AccountPath ErrorCode) → ((q : AccountPath) → source ≡ Ok q → IsPath q) → IsOwn p → IsOutside (link_to p source)
+linked p (Ok source) path out = (out, path source refl)
+linked p (Err code) path out = tt
 
-linked_at : (p : AccountPath) (login : List ℕ) (value : Option (List ℕ)) → is_jobs p.area ≡ false → IsOutside (link_doing p login value)
+linked_at : (p : AccountPath) (login : List ℕ) (value : Option (List ℕ)) → IsOwn p → IsOutside (link_doing p login value)
 linked_at p login None out = tt
-linked_at p login (Some raw) out = linked p (path_read login raw) out
+linked_at p login (Some raw) out = linked p (path_read login raw) (target_path login raw) out
 
-by_kind : (k : Kind) (p : AccountPath) (login : List ℕ) (fields : List Field) → is_jobs p.area ≡ false → IsOutside (doing_by k p login fields)
+by_kind : (k : Kind) (p : AccountPath) (login : List ℕ) (fields : List Field) → IsOwn p → IsOutside (doing_by k p login fields)
 by_kind kind.Object p login fields out = out
 by_kind kind.Directory p login fields out = out
 by_kind kind.Link p login fields out = linked_at p login (first_value (codes "location") fields) out
 
-by_method : (put delete : Bool) (p : AccountPath) (login : List ℕ) (head : Head) → is_jobs p.area ≡ false
+by_method : (put delete : Bool) (p : AccountPath) (login : List ℕ) (head : Head) → IsOwn p
     → IsOutside (if put then doing_by (kind_in head.fields) p login head.fields else (if delete then doing.Remove p else look_at p head))
 by_method true delete p login head out = by_kind (kind_in head.fields) p login head.fields out
 by_method false true p login head out = out
@@ -97,7 +101,7 @@ input_outside : (b : Bool) (job : Option ℕ) → IsWantedOutside (if b then wan
 input_outside true job = tt
 input_outside false job = tt
 
-by_route : (r : Route) (p : AccountPath) (login : List ℕ) (head : Head) → (r ≡ route.Rows → is_jobs p.area ≡ false) → IsWantedOutside (wanted_at r p login head)
+by_route : (r : Route) (p : AccountPath) (login : List ℕ) (head : Head) → (r ≡ route.Rows → IsOwn p) → IsWantedOutside (wanted_at r p login head)
 by_route route.Rows p login head out = by_method (bytes_eq head.method (codes "PUT")) (bytes_eq head.method (codes "DELETE")) p login head (out refl)
 by_route route.Jobs p login head out = jobs_outside (is_post head) p head
 by_route route.JobRow p login head out = tt
@@ -172,20 +176,20 @@ by_early : (early : Option Refused) (late : Option ErrorCode) (wish : Wish) (ask
 by_early (Some refused) late wish asks out = tt
 by_early None late wish asks out = late_outside late wish asks out
 
-by_path : (p : Result AccountPath ErrorCode) (login : List ℕ) (head : Head) → IsAskedOutside (asked_at p login head)
-by_path (Ok p) login head =
+by_path : (r : Result AccountPath ErrorCode) (login : List ℕ) (head : Head) → ((p : AccountPath) → r ≡ Ok p → IsPath p) → IsAskedOutside (asked_at r login head)
+by_path (Ok p) login head path =
     by_early (early_at (route_of p) head) (late_at (route_of p) login head) (wish_of head.fields) (wanted_at (route_of p) p login head)
-    (by_route (route_of p) p login head (rows_outside p))
-by_path (Err code) login head = tt
+    (by_route (route_of p) p login head (λ is. (rows_outside p is, path p refl)))
+by_path (Err code) login head path = tt
 
 asked_outside : (login : List ℕ) (head : Head) → IsAskedOutside (asked_of login head)
 unfolding asked_of
-asked_outside login head = by_path (path_read login head.target) login head
+asked_outside login head = by_path (path_read login head.target) login head (target_path login head.target)
 
 of_asked : (a : Asked) (request : Request) → a ≡ asked.Rows request → IsAskedOutside a → IsOutside request.doing
 of_asked a request is out = subst IsAskedOutside is out
 
-outside : (login : List ℕ) (head : Head) (request : Request) → asked_of login head ≡ asked.Rows request → IsOutside request.doing
+pub outside : (login : List ℕ) (head : Head) (request : Request) → asked_of login head ≡ asked.Rows request → IsOutside request.doing
 outside login head request is = of_asked (asked_of login head) request is (asked_outside login head)
 
 -- ---- what the account says
@@ -202,37 +206,37 @@ made true r none apart = cc
 made false None none apart = refl
 made false (Some refusal) none apart = cc
 
-module _ (s : State Body) (c : Conditions) (body : Body) (moment : ℕ) (command : Command Body) where
+module _ {B : Type 0} (size : B → ℕ) (s : State B) (c : Conditions) (body : B) (moment : ℕ) (command : Command B) where
   is_made : (test : Bool) (p : AccountPath) → is_directory (at s.rows p) ≡ test → is_jobs p.area ≡ false → directory_refusal s.rows p ≡ None
-      → make_command test p moment ≡ Some command → allowed len_of s command ≡ None
+      → make_command test p moment ≡ Some command → allowed size s command ≡ None
   unfolding allowed
   is_made true p there out none is = cc
   is_made false p there out none is =
-      ap (allowed len_of s) (sym (same_Some _ _ is))
+      ap (allowed size s) (sym (same_Some _ _ is))
       ∙ outside_is p (make_directory_refusal s.rows p) out (made (is_directory (at s.rows p)) (make_directory_refusal s.rows p) none there)
 
-  by_doing : (d : Doing) → IsOutside d → account_refusal len_of s.rows c d ≡ None → command_of s.rows d body moment ≡ Some command → allowed len_of s command ≡ None
+  pub by_doing : (d : Doing) → IsOutside d → account_refusal size s.rows c d ≡ None → command_of s.rows d body moment ≡ Some command → allowed size s command ≡ None
   unfolding allowed put_decision link_decision delete_decision
   by_doing doing.Nothing out none is = cc
   by_doing (doing.PutObject p content_type durability metadata) out none is =
-      ap (allowed len_of s) (sym (same_Some _ _ is)) ∙ outside_is p (put_refusal s.rows p) out (decided_go (put_refusal s.rows p) (judged c (object_at s.rows p) false) none)
-  by_doing (doing.PutDirectory p) out none is = is_made (is_directory (at s.rows p)) p refl out none is
+      ap (allowed size s) (sym (same_Some _ _ is)) ∙ outside_is p (put_refusal s.rows p) out.0 (decided_go (put_refusal s.rows p) (judged c (object_at s.rows p) false) none)
+  by_doing (doing.PutDirectory p) out none is = is_made (is_directory (at s.rows p)) p refl out.0 none is
   by_doing (doing.PutLink p source) out none is =
-      ap (allowed len_of s) (sym (same_Some _ _ is))
-      ∙ outside_is p (link_refusal s.rows p source) out (decided_go (link_refusal s.rows p source) (judged c (object_at s.rows p) false) none)
+      ap (allowed size s) (sym (same_Some _ _ is))
+      ∙ outside_is p (link_refusal s.rows p source) out.0.0 (decided_go (link_refusal s.rows p source) (judged c (object_at s.rows p) false) none)
   by_doing (doing.Remove p) out none is =
-      ap (allowed len_of s) (sym (same_Some _ _ is))
-      ∙ outside_is p (remove_refusal s.rows p) out (decided_go (remove_refusal s.rows p) (verdict_on c false (at s.rows p)) none)
+      ap (allowed size s) (sym (same_Some _ _ is))
+      ∙ outside_is p (remove_refusal s.rows p) out.0 (decided_go (remove_refusal s.rows p) (verdict_on c false (at s.rows p)) none)
   by_doing (doing.Look p page range) out none is = cc
 
-account_go : (request : Request) (rows : Rows Body) (c : Conditions) (digest : Option (List ℕ)) → refusal_of len_of request rows c digest ≡ None
-    → account_refusal len_of rows c request.doing ≡ None
+pub account_go : {B : Type 0} → (size : B → ℕ) (request : Request) (rows : Rows B) (c : Conditions) (digest : Option (List ℕ)) → refusal_of size request rows c digest ≡ None
+    → account_refusal size rows c request.doing ≡ None
 unfolding refusal_of
-account_go request rows c digest none =
-    last_of_four request.early (option_map plain (digest_refusal request.wish digest)) (option_map plain request.late) (account_refusal len_of rows c request.doing) none
+account_go size request rows c digest none =
+    last_of_four request.early (option_map plain (digest_refusal request.wish digest)) (option_map plain request.late) (account_refusal size rows c request.doing) none
 
-pub done_allowed : (login : List ℕ) (head : Head) (request : Request) (s : State Body) (c : Conditions) (digest : Option (List ℕ)) (body : Body) (moment : ℕ) (command : Command Body)
-    → asked_of login head ≡ asked.Rows request → refusal_of len_of request s.rows c digest ≡ None → command_of s.rows request.doing body moment ≡ Some command
-    → allowed len_of s command ≡ None
-done_allowed login head request s c digest body moment command asks none is =
-    by_doing s c body moment command request.doing (outside login head request asks) (account_go request s.rows c digest none) is
+pub done_allowed : {B : Type 0} → (size : B → ℕ) (login : List ℕ) (head : Head) (request : Request) (s : State B) (c : Conditions) (digest : Option (List ℕ)) (body : B) (moment : ℕ) (command : Command B)
+    → asked_of login head ≡ asked.Rows request → refusal_of size request s.rows c digest ≡ None → command_of s.rows request.doing body moment ≡ Some command
+    → allowed size s command ≡ None
+done_allowed size login head request s c digest body moment command asks none is =
+    by_doing size s c body moment command request.doing (outside login head request asks) (account_go size request s.rows c digest none) is

@@ -3,6 +3,7 @@ use Rattle.std.proofs.Common.{◌≡◌, ℕ, ◌+◌, ◌<◌, Bool, true, fals
 use Rattle.std.specs.Prelude.{is_some, nat_le, nat_lt, option_map}
 use Rattle.std.proofs.lemmas.Bool.{lt-leb}
 use Rattle.md5.specs.Md5.{md5}
+use Rattle.mt_body.specs.Growth.{growth}
 use Rattle.mt_body.specs.Stored.{pieces_size}
 use Rattle.mt_codec.proofs.SizesRead.{read_size}
 use Rattle.mt_cond.specs.Conditions.{conditions_of}
@@ -28,7 +29,7 @@ use Rattle.mt_types.specs.declared.command.Command.{Command}
 use Rattle.mt_types.specs.declared.command.Command.TheVariants.{Put}
 use Rattle.mt_types.specs.declared.limits.TheConstants.{MOST_COMMANDS}
 use Rattle.mt_types.specs.declared.reply.Reply.{Reply}
-use Rattle.mt_answer.specs.Answer.{Answer, accept, add_if, answer_by, answer_in, answer_to, answer_with, command_of, growth, has_room, make_command, refuse, reply_to, rows_answer_of, stamp_of}
+use Rattle.mt_answer.specs.Answer.{Answer, accept, add_if, answer_by, answer_in, answer_to, answer_with, command_of, has_room, make_command, refuse, reply_to, rows_answer_of, stamp_of}
 use Rattle.mt_answer.specs.Judging.{is_put_object, len_of, md5_of, refusal_of, stored_len, stores_body}
 use Rattle.mt_answer.specs.Laws.{IsDigested}
 use Rattle.mt_answer.proofs.Order.{not_refused}
@@ -70,7 +71,7 @@ module _ (read : Reading) where
   command-with rows (doing.Remove p) body bytes moment same = refl
   command-with rows (doing.Look p page range) body bytes moment same = refl
 
-  growth-with : (len : ℕ) (c : Command Body) → growth len (command_with read c) ≡ growth len c
+  growth-with : (len : ℕ) (c : Command Body) → growth (pieces_size len) (command_with read c) ≡ growth (pieces_size len) c
   growth-with len c = ap (λ n. pieces_size len + 21 + n) (read_size read c)
 
   room-with : (limit count used len : ℕ) (c : Command Body) → has_room limit count used len (command_with read c) ≡ has_room limit count used len c
@@ -151,7 +152,7 @@ module _ (read : Reading) where
 
       no_room : (count len : ℕ) (c : Command Bytes) → limit < used + pieces_size len → has_room limit count used len c ≡ false
       no_room count len c over =
-          ap (λ b. nat_lt count MOST_COMMANDS && b) (lt-leb (used + growth len c) limit (omega (arith, over))) ∙ and_false (nat_lt count MOST_COMMANDS)
+          ap (λ b. nat_lt count MOST_COMMANDS && b) (lt-leb (used + growth (pieces_size len) c) limit (omega (arith, over))) ∙ and_false (nat_lt count MOST_COMMANDS)
 
       full_by : (d : Doing) (bytes : Bytes) (moment : ℕ) → is_put_object d ≡ true → limit < used + pieces_size (length bytes)
           → accept length md5 limit (stamp_of head s.count moment) (state_with read s) (conditions_of head.fields) used d (md5 bytes) (length bytes) (command_of (rows_with read s.rows) d bytes moment)

@@ -3,6 +3,8 @@ use Rattle.std.proofs.Common.{◌≡◌, ◌⊎◌, ℕ, suc, ◌+◌, ◌<◌, 
 use Rattle.std.specs.Prelude.{is_some, nat_le, nat_lt}
 use Rattle.std.proofs.lemmas.Bool.{le-leb, lt-leb}
 use Rattle.md5.specs.Md5.{md5}
+use Rattle.mt_body.specs.Growth.{growth}
+use Rattle.mt_body.specs.Stored.{pieces_size}
 use Rattle.mt_cond.specs.Conditions.{conditions_of}
 use Rattle.mt_error.specs.Refusals.{plain}
 use Rattle.mt_error.specs.declared.code.ErrorCode.TheVariants as error
@@ -17,7 +19,7 @@ use Rattle.mt_types.specs.Values.{command_with, reply_with}
 use Rattle.mt_types.specs.declared.body.Body.{Body}
 use Rattle.mt_types.specs.declared.command.Command.{Command}
 use Rattle.mt_types.specs.declared.limits.TheConstants.{MOST_COMMANDS}
-use Rattle.mt_answer.specs.Answer.{Answer, accept, add_if, answer_by, answer_in, answer_with, command_of, growth, has_room, refuse, reply_to, rows_answer_of, stamp_of}
+use Rattle.mt_answer.specs.Answer.{Answer, accept, add_if, answer_by, answer_in, answer_with, command_of, has_room, refuse, reply_to, rows_answer_of, stamp_of}
 use Rattle.mt_answer.specs.Judging.{is_put_object, len_of, md5_of, refusal_of, stored_len}
 use Rattle.mt_answer.specs.Laws.{IsDigested, body_len}
 use Rattle.mt_answer.proofs.AnswersRead.{answer_read}
@@ -32,13 +34,13 @@ and_false true = refl
 and_false false = refl
 
 -- room, and no room
-pub has_room-yes : {B : Type 0} → (limit count used len : ℕ) (c : Command B) → count < MOST_COMMANDS → used + growth len c ≤ limit → has_room limit count used len c ≡ true
+pub has_room-yes : {B : Type 0} → (limit count used len : ℕ) (c : Command B) → count < MOST_COMMANDS → used + growth (pieces_size len) c ≤ limit → has_room limit count used len c ≡ true
 has_room-yes limit count used len c few fits =
-    ap (λ b. b && nat_le (used + growth len c) limit) (le-leb (suc count) MOST_COMMANDS (omega (arith, few))) ∙ le-leb (used + growth len c) limit fits
+    ap (λ b. b && nat_le (used + growth (pieces_size len) c) limit) (le-leb (suc count) MOST_COMMANDS (omega (arith, few))) ∙ le-leb (used + growth (pieces_size len) c) limit fits
 
-pub has_room-no : {B : Type 0} → (limit count used len : ℕ) (c : Command B) → (MOST_COMMANDS ≤ count) ⊎ (limit < used + growth len c) → has_room limit count used len c ≡ false
-has_room-no limit count used len c (inl many) = ap (λ b. b && nat_le (used + growth len c) limit) (lt-leb (suc count) MOST_COMMANDS (omega (arith, many)))
-has_room-no limit count used len c (inr over) = ap (λ b. nat_lt count MOST_COMMANDS && b) (lt-leb (used + growth len c) limit over) ∙ and_false (nat_lt count MOST_COMMANDS)
+pub has_room-no : {B : Type 0} → (limit count used len : ℕ) (c : Command B) → (MOST_COMMANDS ≤ count) ⊎ (limit < used + growth (pieces_size len) c) → has_room limit count used len c ≡ false
+has_room-no limit count used len c (inl many) = ap (λ b. b && nat_le (used + growth (pieces_size len) c) limit) (lt-leb (suc count) MOST_COMMANDS (omega (arith, many)))
+has_room-no limit count used len c (inr over) = ap (λ b. nat_lt count MOST_COMMANDS && b) (lt-leb (used + growth (pieces_size len) c) limit over) ∙ and_false (nat_lt count MOST_COMMANDS)
 
 -- as many bytes
 same_len : (test : Bool) (m n : ℕ) → (test ≡ true → m ≡ n) → (if test then m else 0) ≡ (if test then n else 0)
@@ -77,11 +79,11 @@ module _ (read : Reading) (keeps : KeepsSize read) (request : Request) (limit : 
       (same_len (is_put_object request.doing) body.len (length bytes) (λ put. sym (keeps body) ∙ ap length (same put)))
 
   pub added_read : (command : Command Body) → command_of s.rows request.doing body moment ≡ Some command
-      → s.count < MOST_COMMANDS → used + growth (body_len request.doing (length bytes)) command ≤ limit
+      → s.count < MOST_COMMANDS → used + growth (pieces_size (body_len request.doing (length bytes))) command ≤ limit
       → rows_answer_of request limit (state_with read s) used head bytes moment ≡ record {
         reply = reply_with read (reply_to len_of md5_of (stamp_of head (s.count + 1) moment) s.count s.rows (conditions_of head.fields) request.doing (md5 bytes));
         added = command_with read command ∷ [];
-        grew = growth (body_len request.doing (length bytes)) command;
+        grew = growth (pieces_size (body_len request.doing (length bytes))) command;
       }
   added_read command is few fits =
       done_read (Some command) is
@@ -91,7 +93,7 @@ module _ (read : Reading) (keeps : KeepsSize read) (request : Request) (limit : 
       (has_room-yes limit s.count used (body_len request.doing (length bytes)) command few fits)
 
   pub full_command_read : (command : Command Body) → command_of s.rows request.doing body moment ≡ Some command
-      → (MOST_COMMANDS ≤ s.count) ⊎ (limit < used + growth (body_len request.doing (length bytes)) command)
+      → (MOST_COMMANDS ≤ s.count) ⊎ (limit < used + growth (pieces_size (body_len request.doing (length bytes))) command)
       → rows_answer_of request limit (state_with read s) used head bytes moment
       ≡ refuse (stamp_of head s.count moment) (plain error.NotEnoughSpace) limit used (body_len request.doing (length bytes))
   full_command_read command is full =

@@ -13,7 +13,6 @@ use Rattle.mt_model.specs.Laws.{KeepsSize, Reading}
 use Rattle.mt_model.specs.State.{State, job_at}
 use Rattle.mt_reply.specs.declared.stamp.Stamp.{Stamp}
 use Rattle.mt_request.specs.declared.asked.JobRequest.{JobRequest}
-use Rattle.mt_request.specs.declared.jobs.JobDoing.{JobDoing}
 use Rattle.mt_request.specs.declared.jobs.JobDoing.TheVariants as jobs
 use Rattle.mt_types.specs.Values.{archive_with, command_with, reply_with}
 use Rattle.mt_types.specs.declared.body.Body.{Body}

@@ -18,11 +18,9 @@ use Rattle.mt_model.specs.Honest.{HonestFrom, IsHonest}
 use Rattle.mt_model.specs.Limits.{most_inputs}
 use Rattle.mt_model.specs.State.{State}
 use Rattle.mt_model.specs.Types.{Raw, Run}
-use Rattle.mt_path.specs.AccountPath.{AccountPath, IsPath}
-use Rattle.mt_path.specs.Names.{AreNames, and_then, area_of, names_of, path_in, path_of, path_of_text, text_pieces}
-use Rattle.mt_path.specs.declared.area.Area.{Area}
+use Rattle.mt_path.specs.AccountPath.{AccountPath}
+use Rattle.mt_path.specs.Names.{path_of_text}
 use Rattle.mt_path.specs.declared.error.PathError.{PathError}
-use Rattle.mt_path.proofs.Judged.{AreNames-from_names_of, IsPath-from_names}
 use Rattle.mt_reply.specs.declared.stamp.Stamp.{Stamp}
 use Rattle.mt_request.specs.declared.asked.JobRequest.{JobRequest}
 use Rattle.mt_request.specs.declared.jobs.JobDoing.{JobDoing}
@@ -40,30 +38,12 @@ use Rattle.mt_answer.specs.Posting.{document_posted, input_line, lines_posted, n
 use Rattle.mt_answer.specs.declared.posted.Posted.{Posted}
 use Rattle.mt_answer.specs.declared.posted.Posted.TheVariants as posted
 use Rattle.mt_answer.proofs.JobsTold.{account_go, by_doing}
+use Rattle.mt_answer.proofs.Paths.{text_path}
 
 abbrev Bytes : Type 0
 Bytes = List ℕ
 
 -- ---- what is posted is well made
-
-in_area : (area : Option Area) (name : List ℕ) (parts : List (List ℕ)) (p : AccountPath) → area_of name ≡ area → AreNames (name ∷ parts) → path_in area parts ≡ Ok p → IsPath p
-in_area None name parts p named are found = absurd (cc)
-in_area (Some area) name parts p named are found =
-    let whole : AccountPath = record { area = area; parts = parts } in
-    let same : whole ≡ p = cc in
-    subst IsPath same (IsPath-from_names name parts area are named)
-
-of_names : (names : List (List ℕ)) (p : AccountPath) → AreNames names → path_of names ≡ Ok p → IsPath p
-unfolding path_of
-of_names [] p are found = absurd (cc)
-of_names (name ∷ parts) p are found = in_area (area_of name) name parts p refl are found
-
-by_names : (r : Result (List (List ℕ)) PathError) (p : AccountPath) → ((names : List (List ℕ)) → r ≡ Ok names → AreNames names) → and_then r path_of ≡ Ok p → IsPath p
-by_names (Ok names) p each found = of_names names p (each names refl) found
-by_names (Err e) p each found = absurd (cc)
-
-text_path : (login text : List ℕ) (p : AccountPath) → path_of_text login text ≡ Ok p → IsPath p
-text_path login text p found = by_names (names_of login (text_pieces login text)) p (AreNames-from_names_of login (text_pieces login text)) found
 
 line_made : (login text : List ℕ) (r : Result AccountPath PathError) → path_of_text login text ≡ r → IsWellMadeLine (named_or text r)
 line_made login text (Ok p) is = text_path login text p is

@@ -3,6 +3,7 @@ pub mod RefusalsRead
 pub mod RepliesRead
 pub mod AnswersRead
 pub mod Exits
+pub mod Paths
 pub mod Allowed
 pub mod Listable
 pub mod Pages
@@ -15,3 +16,6 @@ pub mod PostedFits
 pub mod JobSteps
 pub mod JobExits
 pub mod Whole
+pub mod Steps
+pub mod NoCommits
+pub mod Texts

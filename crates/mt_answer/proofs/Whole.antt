@@ -1,5 +1,5 @@
 -- What any request is answered, by what its head asks for; it adds one command at most.
-use Rattle.std.proofs.Common.{◌≡◌, ℕ, ◌≤◌, Bool, true, false, List, length, Option, Some, None, refl, ap, arith}
+use Rattle.std.proofs.Common.{◌≡◌, ℕ, ◌≤◌, Bool, true, false, List, length, Option, Some, None, ap, arith}
 use Rattle.md5.specs.Md5.{md5}
 use Rattle.mt_cond.specs.Conditions.{conditions_of}
 use Rattle.mt_cond.specs.declared.conditions.Conditions.{Conditions}

@@ -2,8 +2,8 @@
 -- the account, the request and its moment. Over references to bodies or over their bytes. Read from `rows_answer_of` at the end upwards.
 use Rattle.std.specs.Prelude.{ℕ, ◌+◌, ◌*◌, Bool, true, false, ◌&&◌, nat_le, nat_lt, List, [], ◌∷◌, length, map, Option, Some, None, Result, Ok, Err}
 use Rattle.md5.specs.Md5.{md5}
+use Rattle.mt_body.specs.Growth.{growth}
 use Rattle.mt_body.specs.Stored.{pieces_size, pieces_that_fit}
-use Rattle.mt_codec.specs.Pieces.{spelled_size}
 use Rattle.mt_cond.specs.Conditions.{conditions_of}
 use Rattle.mt_cond.specs.Range.{ranged}
 use Rattle.mt_cond.specs.declared.conditions.Conditions.{Conditions}
@@ -65,13 +65,9 @@ module _ {B : Type 0} where
   command_of rows (doing.Remove p) body moment = Some (Delete p moment)
   command_of rows (doing.Look p page range) body moment = None
 
-  -- what a command adds to the log: the pieces of a body of so many bytes, and a record
-  abbrev pub growth : ℕ → Command B → ℕ
-  growth len c = pieces_size len + 21 + spelled_size c
-
-  -- an account of so many commands and its log have room for it
+  -- an account of so many commands and its log have room for it, behind the pieces of a body of so many bytes
   abbrev pub has_room : ℕ → ℕ → ℕ → ℕ → Command B → Bool
-  has_room limit count used len c = nat_lt count MOST_COMMANDS && nat_le (used + growth len c) limit
+  has_room limit count used len c = nat_lt count MOST_COMMANDS && nat_le (used + growth (pieces_size len) c) limit
 
 -- ---- the replies
 
@@ -127,7 +123,7 @@ module _ {B : Type 0} where
 
   -- where an account and its log have room, what is done
   abbrev pub add_if : Bool → Command B → ℕ → Reply B → Answer B → Answer B
-  add_if true command len reply full = record { reply = reply; added = command ∷ []; grew = growth len command }
+  add_if true command len reply full = record { reply = reply; added = command ∷ []; grew = growth (pieces_size len) command }
   add_if false command len reply full = full
 
 module _ {B : Type 0} (size : B → ℕ) (digest : B → List ℕ) where

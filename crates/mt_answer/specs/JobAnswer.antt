@@ -2,8 +2,8 @@
 use Rattle.std.specs.Prelude.{ℕ, ◌+◌, ◌*◌, Bool, true, false, ◌&&◌, nat_le, nat_lt, List, [], ◌∷◌, length, take, Option, Some, None, option_map}
 use Rattle.std.specs.List.{filter}
 use Rattle.md5.specs.Md5.{md5}
+use Rattle.mt_body.specs.Growth.{growth}
 use Rattle.mt_body.specs.Stored.{pieces_size}
-use Rattle.mt_codec.specs.Pieces.{spelled_size}
 use Rattle.mt_error.specs.Refusals.{plain}
 use Rattle.mt_error.specs.declared.code.ErrorCode.TheVariants as error
 use Rattle.mt_error.specs.declared.refused.Refused.{Refused}
@@ -92,7 +92,7 @@ module _ {B : Type 0} (size : B → ℕ) where
 
   -- what a command adds to the log: the pieces that it brings, and a record
   abbrev pub job_growth : Option (Archive B) → Command B → ℕ
-  job_growth archive c = brought_size archive + 21 + spelled_size c
+  job_growth archive c = growth (brought_size archive) c
 
   -- an account of so many commands and its log have room for it
   abbrev pub job_has_room : ℕ → ℕ → ℕ → Option (Archive B) → Command B → Bool

@@ -2,6 +2,7 @@
 use Rattle.std.specs.Prelude.{◌≡◌, ℕ, ◌<◌, ◌≤◌, ◌+◌, ◌⊎◌, true, List, [], ◌∷◌, length, Option, Some, None, is_some, if◌then◌else◌}
 use Rattle.std.specs.List.{AllByRecursion}
 use Rattle.md5.specs.Md5.{md5}
+use Rattle.mt_body.specs.Growth.{growth}
 use Rattle.mt_body.specs.Stored.{pieces_size}
 use Rattle.mt_cond.specs.Conditions.{conditions_of}
 use Rattle.mt_cond.specs.declared.conditions.Conditions.{Conditions}
@@ -32,7 +33,7 @@ use Rattle.mt_types.specs.declared.command.Command.TheVariants.{Put, Link}
 use Rattle.mt_types.specs.declared.limits.TheConstants.{MOST_COMMANDS}
 use Rattle.mt_types.specs.declared.object.Field.{Field}
 use Rattle.mt_types.specs.declared.object.Object.{Object}
-use Rattle.mt_answer.specs.Answer.{answer_in, answer_with, command_of, growth, refuse, reply_to, rows_answer_of, stamp_of}
+use Rattle.mt_answer.specs.Answer.{answer_in, answer_with, command_of, refuse, reply_to, rows_answer_of, stamp_of}
 use Rattle.mt_answer.specs.Judging.{is_put_object, len_of, md5_of, refusal_of, stored_len, stores_body}
 
 -- the digest of each body of a state is that of the bytes that are read
@@ -93,11 +94,11 @@ abbrev pub AddedIsRead : Type 0
 AddedIsRead = (read : Reading) → KeepsSize read → (request : Request) (limit : ℕ) (s : State Body) (used : ℕ) (head : Head) (body : Body) (bytes : List ℕ) (moment : ℕ) (command : Command Body)
     → IsDigested read s → refusal_of len_of request s.rows (conditions_of head.fields) (Some (md5 bytes)) ≡ None
     → command_of s.rows request.doing body moment ≡ Some command → (is_put_object request.doing ≡ true → read body ≡ bytes)
-    → s.count < MOST_COMMANDS → used + growth (body_len request.doing (length bytes)) command ≤ limit
+    → s.count < MOST_COMMANDS → used + growth (pieces_size (body_len request.doing (length bytes))) command ≤ limit
     → rows_answer_of request limit (state_with read s) used head bytes moment ≡ record {
       reply = reply_with read (reply_to len_of md5_of (stamp_of head (s.count + 1) moment) s.count s.rows (conditions_of head.fields) request.doing (md5 bytes));
       added = command_with read command ∷ [];
-      grew = growth (body_len request.doing (length bytes)) command;
+      grew = growth (pieces_size (body_len request.doing (length bytes))) command;
     }
 
 -- a request whose command has no room, behind its body where that has
@@ -105,7 +106,7 @@ abbrev pub FullIsRead : Type 0
 FullIsRead = (read : Reading) → KeepsSize read → (request : Request) (limit : ℕ) (s : State Body) (used : ℕ) (head : Head) (body : Body) (bytes : List ℕ) (moment : ℕ) (command : Command Body)
     → IsDigested read s → refusal_of len_of request s.rows (conditions_of head.fields) (Some (md5 bytes)) ≡ None
     → command_of s.rows request.doing body moment ≡ Some command → (is_put_object request.doing ≡ true → read body ≡ bytes)
-    → (MOST_COMMANDS ≤ s.count) ⊎ (limit < used + growth (body_len request.doing (length bytes)) command)
+    → (MOST_COMMANDS ≤ s.count) ⊎ (limit < used + growth (pieces_size (body_len request.doing (length bytes))) command)
     → rows_answer_of request limit (state_with read s) used head bytes moment
     ≡ refuse (stamp_of head s.count moment) (plain error.NotEnoughSpace) limit used (body_len request.doing (length bytes))
 

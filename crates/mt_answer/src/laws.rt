@@ -1,5 +1,5 @@
 //! Laws: answers over references are those over the bytes that they stand for, and what isn't refused may be done.
-ghost use Rattle.mt_answer.specs.Whole.{AddsOneAtMost};
+ghost use Rattle.mt_answer.specs.Whole.{AddsOneAtMost, AnswersAreNoCommits, AnswersAreSteps, AnswersHaveTexts};
 ghost use Rattle.mt_answer.specs.Laws.{AddedIsRead, AnswersAreRead, BodyWithoutRoom, DoneIsAllowed, FullIsRead, LawfulIsListable, LinkIsTold, PutIsTold, RefusalsAreRead, RefusedIsRead, ShownIsRead, StaysRefused, StoringIsRead};
 
 /// Over a state of references a request is answered as over the bytes that are read for them: the same reply, the same command and
@@ -47,4 +47,20 @@ pub fn lawful_is_listable()
 /// A request adds one command at most.
 pub fn answers_add_one()
     ensures { AddsOneAtMost }
+{}
+
+/// What a request of any kind adds is a step of the account: well made, allowed, with room for one more, and honest though no child gives
+/// anything, so whatever children give (`honest_answer` of proofs/Steps).
+pub fn answers_are_steps()
+    ensures { AnswersAreSteps }
+{}
+
+/// What a request of any kind adds is neither the commit of a task nor that of an upload.
+pub fn answers_are_no_commits()
+    ensures { AnswersAreNoCommits }
+{}
+
+/// A job that a request of any kind ends leaves its five texts, as it is then.
+pub fn answers_have_their_texts()
+    ensures { AnswersHaveTexts }
 {}

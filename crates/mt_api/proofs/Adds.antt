@@ -2,12 +2,13 @@
 use Rattle.std.proofs.Common.{◌≡◌, ◌≢◌, ◌⊎◌, ◌≤◌, ◌<◌, ℕ, ◌+◌, Bool, false, true, inl, inr, ⊎_elim, List, [], ◌∷◌, ◌++◌, length, Option, Some, None, refl, sym, ap, ◌∙◌, subst, arith}
 use Rattle.std.proofs.lemmas.Option.{same_Some}
 use Rattle.md5.specs.Md5.{md5}
-use Rattle.mt_answer.specs.Answer.{Answer, command_of, growth, link_reply, make_command, reply_to, rows_answer_of, stamp_of}
+use Rattle.mt_answer.specs.Answer.{Answer, command_of, link_reply, make_command, reply_to, rows_answer_of, stamp_of}
 use Rattle.mt_answer.specs.Judging.{is_put_object, len_of, md5_of}
 use Rattle.mt_answer.specs.Laws.{IsDigested, body_len}
 use Rattle.mt_answer.proofs.Exits.{added_read, full_command_read}
 use Rattle.mt_answer.proofs.Whole.{rows_at}
-use Rattle.mt_body.specs.Stored.{IsStored, bytes_of, pieces_that_fit}
+use Rattle.mt_body.specs.Growth.{growth}
+use Rattle.mt_body.specs.Stored.{IsStored, bytes_of, pieces_size, pieces_that_fit}
 use Rattle.mt_body.proofs.Keeping.{length-bytes_of}
 use Rattle.mt_codec.specs.Pieces.{blank_body, spelled_size}
 use Rattle.mt_codec.specs.Spelling.{spelling}
@@ -123,19 +124,19 @@ module _ (seen : Option Files) (engine : EngineState) (run : RunState) (base : S
   abbrev reply_of : Reply Body
   reply_of = reply_to len_of md5_of (stamp_of asked.head (engine.state.count + 1) asked.moment) engine.state.count engine.state.rows (conditions_of asked.head.fields) call.request.doing (md5 bytes)
 
-  room : Takes engine run command → used engine + growth (body_len call.request.doing (length bytes)) command ≤ engine.log.limit
+  room : Takes engine run command → used engine + growth (pieces_size (body_len call.request.doing (length bytes))) command ≤ engine.log.limit
   room takes = omega (arith, takes.fits, w.next, size_is command)
 
   added : Takes engine run command → answer_at asked engine (replay base h) bytes ≡ record {
     reply = reply_with (bytes_of qs) (reply_to len_of md5_of (stamp_of asked.head (engine.state.count + 1) asked.moment) engine.state.count engine.state.rows (conditions_of asked.head.fields) call.request.doing (md5 bytes));
     added = command_with (bytes_of qs) command ∷ [];
-    grew = growth (body_len call.request.doing (length bytes)) command;
+    grew = growth (pieces_size (body_len call.request.doing (length bytes))) command;
   }
   added takes =
       at_state ∙ added_read (bytes_of qs) (length-bytes_of qs) call.request engine.log.limit engine.state (used engine) asked.head body bytes asked.moment digested w.none (λ put. (w.stored put).1) command is takes.few (room takes)
 
   full : (engine.state.count ≡ MOST_COMMANDS) ⊎ (engine.log.limit < size_with_run run (length (spelling command)))
-      → (MOST_COMMANDS ≤ engine.state.count) ⊎ (engine.log.limit < used engine + growth (body_len call.request.doing (length bytes)) command)
+      → (MOST_COMMANDS ≤ engine.state.count) ⊎ (engine.log.limit < used engine + growth (pieces_size (body_len call.request.doing (length bytes))) command)
   full (inl many) = inl (omega (arith, many))
   full (inr over) = inr (omega (arith, over, w.next, size_is command))
 
@@ -158,7 +159,7 @@ module _ (seen : Option Files) (engine : EngineState) (run : RunState) (base : S
       record {
         history = ap (λ (a : Answer Bytes). h ++ a.added) (sym is_added);
         current = current;
-        grew = let at : used engine' ≡ used engine + growth (body_len call.request.doing (length bytes)) command = omega (arith, ap used decided.1, w.next, size_is command) in
+        grew = let at : used engine' ≡ used engine + growth (pieces_size (body_len call.request.doing (length bytes))) command = omega (arith, ap used decided.1, w.next, size_is command) in
             at ∙ ap (λ (a : Answer Bytes). used engine + a.grew) (sym is_added);
         shows = λ ps there. ap (λ (r : Reply Body). reply_with (bytes_of ps) r) says'' ∙ held_same (bytes_of ps) (bytes_of qs) reply_of held ∙ ap (λ (a : Answer Bytes). a.reply) (sym is_added);
       }

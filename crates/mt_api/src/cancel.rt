@@ -88,8 +88,8 @@ fn end_job<D: Disk>(
             let command = close_command(job, archive, moment);
             return add_job(alloc, login, engine, disk, run, call, command);
         }
-        // never: room was asked for before
-        Archiving::Full => return give_up(engine, disk, run),
+        // room was asked for before
+        Archiving::Full => unreachable!(),
         Archiving::Memory => return give_up(engine, disk, run),
         Archiving::Disk => return Answered::Disk,
     }

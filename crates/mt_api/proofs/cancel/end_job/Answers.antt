@@ -1,10 +1,13 @@
-use Rattle.std.proofs.Common.{◌++◌, true, Some, inl, refl, sym, ap, ◌∙◌, subst}
+use Rattle.std.proofs.Common.{◌++◌, true, Some, inl, refl, sym, ap, ◌∙◌, subst, arith}
 use Rattle.mt_engine.specs.Archiving.{ArchiveIn}
 use Rattle.mt_engine.specs.Current.{EngineState}
 use Rattle.mt_engine.proofs.Ends.{all_of}
 use Rattle.mt_engine.proofs.Held.{told_now}
+use Rattle.mt_codec.specs.Pieces.{blank_body}
 use Rattle.mt_log.specs.LogImage.{payloads_of}
+use Rattle.mt_log.specs.RunState.{RunState}
 use Rattle.mt_model.specs.CommandStep.{replay}
+use Rattle.mt_types.specs.declared.command.Archive.{Archive}
 use Rattle.mt_types.specs.declared.command.Command.{Command}
 use Rattle.mt_types.specs.declared.command.Command.TheVariants.{Close}
 use Rattle.mt_types.specs.declared.body.Body.{Body}
@@ -18,6 +21,11 @@ use Rattle.mt_api.proofs.cancel.end_job.Goals as goal
 
 pub store_archive-requires-clause-ready : goal.store_archive-requires-clause-ready
 store_archive-requires-clause-ready g c = record { running = c.begin_run-run.ensures.goes_on.running; order = c.begin_run-run.ensures.goes_on.order; is_open = c.requires.ready.over.is_open }
+
+pub unreachable-requires : goal.unreachable-requires
+unreachable-requires g c =
+    let blank : Archive Body = record { err = blank_body; fail = blank_body; input = blank_body; status = blank_body; out = blank_body } in
+    omega (arith, c.in-Full.ensures.places, ap (λ (x : RunState). x.next) c.begin_run-run.ensures.place, (c.requires.room blank).fits)
 
 pub close_command-command-requires-clause-archive : goal.close_command-command-requires-clause-archive
 close_command-command-requires-clause-archive g c =
@@ -68,20 +76,6 @@ returns-in-Stored-clause-settles g c base h asked bytes i e none =
           (settles_on c.add_job.result (answer_at asked engine (replay base h) bytes) (used engine) base h (d.seen c.add_job.new.disk) c.add_job.new.engine r.0 settles) (c.in-Stored.ensures.any_moment base h ps w) r.2,
     )
 
-pub returns-in-Full-clause-settles : goal.returns-in-Full-clause-settles
-returns-in-Full-clause-settles g c base h asked bytes i e none =
-    let d = g.D.Disk in
-    let engine = c.args.engine.now in
-    let cancels = c.requires.cancels in
-    let ps = payloads_of i.is_read.files in
-    let w = c.begin_run-run.ensures.writing base h i (payloads_of i.is_read.files) (told_now (d.seen c.args.disk.now) engine base h i) in
-    let s = c.in-Full.ensures.archive base h ps w (texts c.args.login.now engine c.args.call c.args.job cancels) (are_texts c.args.login.now engine c.args.call c.args.job cancels) in (
-      h,
-      c.give_up.ensures.settles (answer_at asked engine (replay base h) bytes) (used engine) base h (ps ++ s.pieces) s.writing,
-      leaves_then d.moment d.left_since c.args.disk.now c.store_archive.new.disk c.give_up.new.disk base h h (all_of h) (c.in-Full.ensures.any_moment base h ps w)
-          (leaves_same d.moment d.left_since c.store_archive.new.disk c.give_up.new.disk base h (c.give_up.ensures.any_moment base h (ps ++ s.pieces) s.writing)),
-    )
-
 pub returns-in-Memory-clause-settles : goal.returns-in-Memory-clause-settles
 returns-in-Memory-clause-settles g c base h asked bytes i e none =
     let d = g.D.Disk in
@@ -91,9 +85,9 @@ returns-in-Memory-clause-settles g c base h asked bytes i e none =
     let w = c.begin_run-run.ensures.writing base h i (payloads_of i.is_read.files) (told_now (d.seen c.args.disk.now) engine base h i) in
     let s = c.in-Memory.ensures.archive base h ps w (texts c.args.login.now engine c.args.call c.args.job cancels) (are_texts c.args.login.now engine c.args.call c.args.job cancels) in (
       h,
-      c.give_up-in-Memory.ensures.settles (answer_at asked engine (replay base h) bytes) (used engine) base h (ps ++ s.pieces) s.writing,
-      leaves_then d.moment d.left_since c.args.disk.now c.store_archive.new.disk c.give_up-in-Memory.new.disk base h h (all_of h) (c.in-Memory.ensures.any_moment base h ps w)
-          (leaves_same d.moment d.left_since c.store_archive.new.disk c.give_up-in-Memory.new.disk base h (c.give_up-in-Memory.ensures.any_moment base h (ps ++ s.pieces) s.writing)),
+      c.give_up.ensures.settles (answer_at asked engine (replay base h) bytes) (used engine) base h (ps ++ s.pieces) s.writing,
+      leaves_then d.moment d.left_since c.args.disk.now c.store_archive.new.disk c.give_up.new.disk base h h (all_of h) (c.in-Memory.ensures.any_moment base h ps w)
+          (leaves_same d.moment d.left_since c.store_archive.new.disk c.give_up.new.disk base h (c.give_up.ensures.any_moment base h (ps ++ s.pieces) s.writing)),
     )
 
 pub returns-in-Disk-clause-settles : goal.returns-in-Disk-clause-settles
@@ -105,15 +99,6 @@ returns-in-Disk-clause-settles g c base h asked bytes i e none =
 
 pub give_up-requires : goal.give_up-requires
 give_up-requires g c = record {
-  ready = record {
-    running = c.in-Full.ensures.goes_on.running;
-    order = c.in-Full.ensures.goes_on.order;
-    is_open = ap (λ (x : EngineState). x.log.closed) (c.in-Full.ensures.still_open (λ x. cc)) ∙ c.requires.ready.over.is_open;
-  };
-}
-
-pub give_up-requires-in-Memory : goal.give_up-requires-in-Memory
-give_up-requires-in-Memory g c = record {
   ready = record {
     running = c.in-Memory.ensures.goes_on.running;
     order = c.in-Memory.ensures.goes_on.order;
@@ -131,20 +116,10 @@ returns-in-Stored-clause-settled g c =
       sends = held_sends c.add_job.result (d.seen c.add_job.new.disk) c.add_job.new.engine c.add_job.ensures.settled.held;
     }
 
-pub returns-in-Full-clause-settled : goal.returns-in-Full-clause-settled
-returns-in-Full-clause-settled g c =
-    let d = g.D.Disk in
-    record {
-      keeps = behind_keeps d.seen d.may_leave d.faults c.args.disk.now c.store_archive.new.disk c.give_up.new.disk c.give_up.result c.args.engine.now c.store_archive.new.self c.give_up.new.engine
-          (ap (λ (x : EngineState). x.log.closed) (c.in-Full.ensures.still_open (λ x. cc)) ∙ c.requires.ready.over.is_open) c.in-Full.ensures.keeps c.give_up.ensures.settled.keeps;
-      is_settled = c.give_up.ensures.settled.is_settled;
-      sends = held_sends c.give_up.result (d.seen c.give_up.new.disk) c.give_up.new.engine c.give_up.ensures.settled.held;
-    }
-
 pub returns-in-Memory-clause-settled : goal.returns-in-Memory-clause-settled
 returns-in-Memory-clause-settled g c =
     let d = g.D.Disk in
-    let end = c.give_up-in-Memory in
+    let end = c.give_up in
     record {
       keeps = behind_keeps d.seen d.may_leave d.faults c.args.disk.now c.store_archive.new.disk end.new.disk end.result c.args.engine.now c.store_archive.new.self end.new.engine
           (ap (λ (x : EngineState). x.log.closed) (c.in-Memory.ensures.still_open (λ x. cc)) ∙ c.requires.ready.over.is_open) c.in-Memory.ensures.keeps end.ensures.settled.keeps;
