@@ -4,6 +4,7 @@
 //! - `counted`: standard input and output, or any other reader and writer, with counted faults; `patient`: streams that wait.
 //! - `tcp_door`: the clients that connect; `set`: what is waited for at once; `places`: the links that are not in their turn;
 //!   `tcp_link`: one of them, over `wire`, its socket, and `ahead`, what came of it before it was asked for.
+//! - `wakes`: what wakes a door beside its clients.
 //! - `turn`: how long one link may hold the others; `whole`: whether a message has come whole; `limits`, `readiness`: how long a
 //!   client is waited for, and how.
 //! - `system_clock`: the moment that the system tells. `standard`: the numbers of standard input, output and error. `words`: those
@@ -26,6 +27,7 @@ mod system_clock;
 mod tcp_door;
 mod tcp_link;
 mod turn;
+mod wakes;
 mod whole;
 mod wire;
 mod words;
@@ -39,4 +41,5 @@ pub use standard::Standard;
 pub use system_clock::SystemClock;
 pub use tcp_door::TcpDoor;
 pub use tcp_link::TcpLink;
+pub use wakes::Wakes;
 pub use words::words_of;

@@ -1,5 +1,5 @@
 //! Waiting until a descriptor is ready (`poll`), and the time that passes.
-use libc::net::{POLLIN, POLLOUT, poll};
+use libc::net::{POLLHUP, POLLIN, POLLOUT, poll};
 use libc::types::{pollfd, timespec};
 use libc::{CLOCK_MONOTONIC, clock_gettime};
 use std::os::fd::RawFd;
@@ -88,6 +88,12 @@ pub(crate) fn is_ready_before(
     ];
     is_ready(&mut both, wait_of(millis));
     (both[0].revents != 0, both[1].revents != 0)
+}
+
+/// Whether nobody has the other end of a pipe any more.
+pub(crate) fn is_closed(descriptor: RawFd) -> bool {
+    let mut asked = [asked(descriptor, Readiness::ToRead)];
+    is_ready(&mut asked, 0) && asked[0].revents & POLLHUP != 0
 }
 
 /// Waits until a read would not wait.

@@ -1,7 +1,8 @@
-//! The descriptors that a door waits for: that at which clients come, and those of its links.
+//! The descriptors that a door waits for: that at which clients come, those of its links, and those of children.
 use crate::limits::Limits;
 use crate::places::Places;
 use crate::readiness::{millis, now};
+use crate::wakes::{CHILDREN, Wakes};
 use crate::wire::Wire;
 use mio::unix::SourceFd;
 use mio::{Events, Interest, Poll, Token};
@@ -10,6 +11,7 @@ use std::io;
 use std::io::ErrorKind;
 use std::net::{Net, TcpListener};
 use std::os::fd::{AsRawFd, RawFd};
+use std::rc::Rc;
 use std::time::Duration;
 
 /// What tells that a client comes.
@@ -47,6 +49,8 @@ pub(crate) struct Set {
     failures: u32,
     // When it was looked which links were waited for too long.
     swept: u64,
+    // What wakes it beside clients.
+    wakes: Rc<Wakes>,
 }
 
 // What a descriptor is called in the set.
@@ -57,8 +61,13 @@ fn token(number: RawFd) -> Token {
 impl Set {
     ghost use Rattle.std.specs.Prelude.{◌≡◌};
 
-    // The set of a listener.
-    pub(crate) fn open<R: Net>(alloc: Global, rt: &R, listener: TcpListener) -> io::Result<Set> {
+    // The set of a listener, which children join by what wakes it.
+    pub(crate) fn open<R: Net>(
+        alloc: Global,
+        rt: &R,
+        listener: TcpListener,
+        wakes: Rc<Wakes>,
+    ) -> io::Result<Set> {
         listener.set_nonblocking(true)?;
         let set = Set {
             alloc,
@@ -69,7 +78,9 @@ impl Set {
             retry: 0,
             failures: 0,
             swept: 0,
+            wakes,
         };
+        set.wakes.join(set.poll.registry().try_clone().ok());
         let number = set.listener.as_raw_fd();
         set.poll
             .registry()
@@ -148,18 +159,31 @@ impl Set {
         Ok(())
     }
 
-    // How long nothing has to be done if nothing comes; none where that has no end.
-    fn most(&self, places: &Places, fresh: bool, now: u64) -> Option<Duration> {
+    // When something is to be done if nothing comes; the last moment of all where that has no end.
+    fn next(&self, places: &Places, fresh: bool, now: u64) -> u64 {
         let next = if places.has_queue() {
             now
         } else if fresh && self.has_client {
             self.retry
         } else if places.is_empty() {
-            return None;
+            u64::MAX
         } else {
             self.swept.saturating_add(SWEEP)
         };
-        Some(Duration::from_millis(next.saturating_sub(now)))
+        next.min(self.wakes.next())
+    }
+
+    // How long nothing has to be done if nothing comes; none where that has no end.
+    fn most(&self, places: &Places, fresh: bool, now: u64) -> Option<Duration> {
+        match self.next(places, fresh, now) {
+            u64::MAX => None,
+            next => Some(Duration::from_millis(next.saturating_sub(now))),
+        }
+    }
+
+    // Whether something else than a client is to be looked after.
+    pub(crate) fn is_woken(&self) -> bool {
+        self.wakes.is_due()
     }
 
     // Waits for a change, and reads what has come.
@@ -172,6 +196,8 @@ impl Set {
         for event in self.events.iter() {
             if event.token() == CLIENTS {
                 has_client = true;
+            } else if event.token() == CHILDREN {
+                self.wakes.wake();
             } else if let Ok(number) = RawFd::try_from(event.token().0) {
                 let closed = event.is_read_closed() || event.is_error();
                 places.come(number, closed, now);
@@ -186,8 +212,9 @@ impl Set {
         ensures { places.new ≡ places.old }
     {
         let mut time = now();
-        let end = time.saturating_add(millis(limits.end));
+        let last = time.saturating_add(millis(limits.end));
         for _ in 0..WAITS {
+            let end = last.min(self.wakes.next());
             if time >= end || self.has_client || !places.has_ends_alone() {
                 break;
             }

@@ -8,12 +8,14 @@ use crate::readiness::now;
 use crate::set::Set;
 use crate::tcp_link::TcpLink;
 use crate::turn::Turn;
+use crate::wakes::Wakes;
 use mt_edge::{Door, Next};
 use std::alloc::{AllocError, Global};
 use std::io;
 use std::io::ErrorKind;
 use std::marker::Model;
 use std::net::{Net, TcpListener, TcpStream};
+use std::rc::Rc;
 
 /// Connections to an address, which is bound at the first call of `next`: `HOST:PORT`, where the host is an IPv4 address, an IPv6
 /// address in brackets or a name. At port 0 the system picks one, and standard error says which. A link is given where a whole
@@ -28,6 +30,7 @@ pub struct TcpDoor<R> {
     set: Option<Set>,
     places: Places,
     limits: Limits,
+    wakes: Rc<Wakes>,
     taken: u64,
     over: u64,
     faults: u64,
@@ -58,7 +61,7 @@ fn bind<R: Net<Listener = TcpListener, Stream = TcpStream> + Eprint>(
     Ok(listener)
 }
 
-// The first link that can be served, which is waited for; none after 2 ^ 64 changes.
+// The first link that can be served, which is waited for; none where the door is woken before, or after 2 ^ 64 changes.
 fn first_served(
     set: &mut Set,
     places: &mut Places,
@@ -74,6 +77,9 @@ fn first_served(
         }
         if let Some(served) = places.take(fresh) {
             return Ok(Some(served));
+        }
+        if set.is_woken() {
+            break;
         }
     }
     Ok(None)
@@ -104,6 +110,7 @@ impl<R> TcpDoor<R> {
             set: None,
             places: Places::new(alloc)?,
             limits: Limits::usual(),
+            wakes: Rc::new(alloc, Wakes::new())?,
             taken: 0,
             over: 0,
             faults: 0,
@@ -134,6 +141,15 @@ impl<R> TcpDoor<R> {
         ensures { result ≡ self }
     {
         self.limits = limits;
+        self
+    }
+
+    /// The same door, which wakes at its first call, if no link can be served then, and whenever these ask for it.
+    pub fn waking(mut self, wakes: Rc<Wakes>) -> TcpDoor<R>
+        ensures { result ≡ self }
+    {
+        wakes.wake();
+        self.wakes = wakes;
         self
     }
 
@@ -206,7 +222,7 @@ impl<R: Net<Listener = TcpListener, Stream = TcpStream> + Eprint> TcpDoor<R> {
             Some(listener) => listener,
             None => bind(&self.rt, self.address.as_str())?,
         };
-        Set::open(self.alloc, &self.rt, listener)
+        Set::open(self.alloc, &self.rt, listener, self.wakes.clone()?)
     }
 }
 

@@ -3,7 +3,8 @@
 //!
 //! - `sh_spawner`: the commands. `running`, `held`: those that live, and the one that has ended.
 //! - `task_folder`, `script`, `outcome`: what a command finds, how it is started, and what it left. `group`: how it is ended.
-//! - `needs`: what tasks need. `fault`: why a call failed. `rests`: how long none is started then.
+//! - `needs`: what tasks need. `fault`: why a call failed. `rests`: how long none is started then. `slice`: how long ended children are
+//!   taken until others have their turn.
 //! - `folder_spool`: the files of helpers.
 #![tactic(auto)]
 
@@ -17,6 +18,7 @@ mod rests;
 mod running;
 mod script;
 mod sh_spawner;
+mod slice;
 mod task_folder;
 
 pub use fault::{TaskFault, Tool};

@@ -23,12 +23,13 @@ impl Rests {
         }
     }
 
-    /// Whether the rest isn't over.
-    pub(crate) fn lasts<R: Clock>(&self, rt: &R) -> bool {
-        match self.since {
-            Some(since) => since.elapsed(rt).is_ok_and(|passed| passed < self.time),
-            None => false,
+    /// How long the rest lasts on, if it isn't over.
+    pub(crate) fn left<R: Clock>(&self, rt: &R) -> Option<Duration> {
+        let passed = self.since?.elapsed(rt).ok()?;
+        if passed < self.time {
+            return Some(self.time.saturating_sub(passed));
         }
+        None
     }
 
     /// A start has failed: a rest begins, twice as long as the last.

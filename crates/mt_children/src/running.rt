@@ -3,9 +3,11 @@ ghost use Rattle.std.specs.Prelude.{◌≡◌, ◌<◌, ◌==◌, All, IfSome, l
 ghost use Rattle.std.specs.List.{AllZip, list_any};
 ghost use Rattle.mt_spawn.specs.Children.{HasWaited};
 
+use mt_adapters::Wakes;
 use std::alloc::Global;
 use std::io;
 use std::marker::Model;
+use std::os::fd::AsRawFd;
 use std::process::{Child, ExitStatus, SystemProcess};
 
 /// A child that runs, or that has ended and was not waited for.
@@ -35,6 +37,14 @@ impl Running {
         ensures { self.new ≡ self.old }
     {
         self.process.try_wait()
+    }
+
+    // Whether its first process has ended, or will have in a moment.
+    fn is_ending(&self) -> bool {
+        match &self.process.stdout {
+            Some(output) => Wakes::is_closed(output.as_raw_fd()),
+            None => false,
+        }
     }
 }
 
@@ -140,6 +150,11 @@ impl Children {
         ensures { AllZip HasWaited self.old.items.items self.new.items.items }
     {
         wait_in(&mut self.items);
+    }
+
+    /// Whether the first process of a child has ended, or will have in a moment.
+    pub(crate) fn has_ending(&self) -> bool {
+        self.items.iter().any(|child| child.is_ending())
     }
 
     /// The first child that has ended, and how.

@@ -72,7 +72,8 @@ fn add_words(
 }
 
 /// What starts the command of an order in its folder: a shell in a session of its own, with no stream of this process. Its
-/// environment is this process's, but that of the two variables of which a task has one, none is inherited.
+/// environment is this process's, but that of the two variables of which a task has one, none is inherited. Its standard output is a
+/// pipe that no command gets, and to which nothing is written: it is closed when the shell ends.
 pub(crate) fn command_of(
     alloc: Global,
     folder: &str,
@@ -90,7 +91,7 @@ pub(crate) fn command_of(
         .env_remove("MANTA_REDUCER")?;
     command
         .stdin(Stdio::null())
-        .stdout(Stdio::null())
+        .stdout(Stdio::piped())
         .stderr(Stdio::null());
     Ok(command)
 }

@@ -9,7 +9,9 @@ use crate::outcome::{is_folder, left_in};
 use crate::rests::Rests;
 use crate::running::{Children, Found};
 use crate::script::command_of;
+use crate::slice::Slice;
 use crate::task_folder::{Unstarted, fill, make_folder, path_of};
+use mt_adapters::Wakes;
 use mt_base::{Duplicate, NUMBERS_END};
 use mt_edge::{ReadStep, Source};
 use mt_spawn::{Begun, Left, Order, Part, Spawner, Ticket, Waited};
@@ -17,7 +19,9 @@ use std::alloc::{AllocError, Global};
 use std::fs::File;
 use std::io::{Eprint, ErrorKind};
 use std::marker::Model;
+use std::os::fd::AsRawFd;
 use std::process::{Child, Command, ExitStatus, Processes, Stdio, SystemProcess};
+use std::rc::Rc;
 use std::rt::Files;
 use std::time::{Clock, Duration};
 use std::{io, thread};
@@ -28,10 +32,14 @@ const FIRST_PAUSE: u64 = 50;
 /// The longest pause between two looks, in microseconds.
 const LAST_PAUSE: u64 = 2_000;
 
+/// How many seconds pass before it is looked again what is to be done behind a call that failed.
+const FAILED_PAUSE: u64 = 1;
+
 /// Commands under `sh`, each in a folder of its own below the work folder, which is made where it is missing. A child is the first
 /// of a session and of a group, which is ended as a whole. No bytes of a child are ever whole in memory, and one file of its is open
 /// at a time. It tells nothing of what a command gives. Behind a start that failed no other is tried for a second, then two, and at most
-/// thirty, and each answers `Failed`. A new cause of a failure is said on standard error, at most once a minute.
+/// thirty, and each answers `Failed`. A new cause of a failure is said on standard error, at most once a minute. Beside a door, which it
+/// wakes where a child ends, it takes ended children for 20 ms, and then none until the next look.
 #[derive(Drop)]
 pub struct ShSpawner<R> {
     rt: R,
@@ -50,6 +58,8 @@ pub struct ShSpawner<R> {
     failure: Option<TaskFault>,
     rests: Rests,
     teller: Teller,
+    wakes: Option<Rc<Wakes>>,
+    slice: Slice,
 }
 
 impl<R> Model for ShSpawner<R> {
@@ -99,6 +109,8 @@ impl<R> ShSpawner<R> {
             failure: None,
             rests: Rests::new(),
             teller: Teller::new(),
+            wakes: None,
+            slice: Slice::new(),
         })
     }
 
@@ -107,6 +119,15 @@ impl<R> ShSpawner<R> {
         ensures { result ≡ self }
     {
         self.patience = Some(patience);
+        self
+    }
+
+    /// The same spawner, beside a door that these wake: when a child ends, when a start may be tried again, and soon again behind a look
+    /// that found none because the others have their turn.
+    pub fn waking(mut self, wakes: Rc<Wakes>) -> ShSpawner<R>
+        ensures { result ≡ self }
+    {
+        self.wakes = Some(wakes);
         self
     }
 
@@ -158,6 +179,27 @@ impl<R> ShSpawner<R> {
     {
         self.failure.as_ref()
     }
+
+    // Asks for the next look within a time.
+    fn wake_within(&self, time: Duration) {
+        if let Some(wakes) = &self.wakes {
+            wakes.wake_within(time);
+        }
+    }
+
+    // Asks for the next look where none of the children has ended.
+    fn look_again(&self) {
+        if let Some(wakes) = &self.wakes {
+            wakes.look_again(self.children.has_ending());
+        }
+    }
+
+    // Asks for a look when this child ends.
+    fn watch(&self, process: &Child<SystemProcess>) {
+        if let (Some(wakes), Some(output)) = (&self.wakes, &process.stdout) {
+            wakes.watch(output.as_raw_fd());
+        }
+    }
 }
 
 impl<R: Clock + Eprint> ShSpawner<R> {
@@ -171,6 +213,7 @@ impl<R: Clock + Eprint> ShSpawner<R> {
         self.teller.tell(&self.rt, &fault);
         self.faults = counted(self.faults);
         self.failure = Some(fault);
+        self.wake_within(Duration::from_secs(FAILED_PAUSE));
     }
 
     // Counts a start that failed, and begins a rest.
@@ -188,12 +231,15 @@ impl<R: Clock + Eprint> ShSpawner<R> {
         let Some(fault) = self.failure.take() else {
             return false;
         };
-        let lasts = self.rests.lasts(&self.rt);
-        if lasts {
+        let left = self.rests.left(&self.rt);
+        if left.is_some() {
             self.faults = counted(self.faults);
         }
         self.failure = Some(fault);
-        lasts
+        if let Some(time) = left {
+            self.wake_within(time);
+        }
+        left.is_some()
     }
 }
 
@@ -308,7 +354,10 @@ impl<R: Files<File = File> + Processes<Started = SystemProcess> + Clock> ShSpawn
         if order.job >= NUMBERS_END {
             return Err(io::Error::from(ErrorKind::InvalidInput));
         }
-        command_of(alloc, folder, &self.helper, &self.login, order)?.spawn(&self.rt)
+        let mut command = command_of(alloc, folder, &self.helper, &self.login, order)?;
+        let process = command.spawn(&self.rt)?;
+        self.watch(&process);
+        Ok(process)
     }
 
     // Makes the folder of the next task, under whose number no child lives.
@@ -368,8 +417,24 @@ impl<R: Files<File = File> + Processes<Started = SystemProcess> + Clock> ShSpawn
         }
     }
 
-    // Looks for a child that has ended; patient, until one has, or for as long as was asked for.
-    fn await_one(&mut self, patient: bool) -> Option<Found>
+    // Looks once for a child that has ended. Beside a door it finds none once it has for so long.
+    fn look_for_one(&mut self) -> Option<Found>
+        ensures same { self.new ≡ self.old }
+        ensures there { IfSome result (λ f. f.place < length self.old.live) }
+    {
+        if self.wakes.is_some() && self.slice.is_over(&self.rt) {
+            self.wake_within(Duration::ZERO);
+            return None;
+        }
+        let found = self.children.first_ended();
+        if found.is_none() {
+            self.look_again();
+        }
+        found
+    }
+
+    // Waits for a child that has ended, or for as long as was asked for.
+    fn await_one(&mut self) -> Option<Found>
         ensures same { self.new ≡ self.old }
         ensures there { IfSome result (λ f. f.place < length self.old.live) }
     {
@@ -379,7 +444,7 @@ impl<R: Files<File = File> + Processes<Started = SystemProcess> + Clock> ShSpawn
             if let Some(found) = self.children.first_ended() {
                 return Some(found);
             }
-            if !patient || self.patience.is_some_and(|most| waited >= most) {
+            if self.patience.is_some_and(|most| waited >= most) {
                 return None;
             }
             thread::sleep(&self.rt, pause);
@@ -553,9 +618,15 @@ impl<R: Files<File = File> + Processes<Started = SystemProcess> + Clock + Eprint
         ensures wait { Waits (λ fate raw. ⊤) (seen_of self.old) result self.new.held None (seen_of self.new) }
         ensures counted { self.new.faults ≡ faults_after_wait self.old.faults result }
     {
-        match self.await_one(patient) {
+        let found = if patient {
+            self.await_one()
+        } else {
+            self.look_for_one()
+        };
+        match found {
             Some(found) => self.take(alloc, found),
             None => {
+                self.slice.end();
                 self.children.wait_all();
                 self.waits = self.waits.saturating_add(1);
                 Waited::NotYet
