@@ -98,6 +98,7 @@ module _ (s : Setting) (since : ℕ → Files → Type 0) (heard : s.hears ≡ t
       (IfSome_then mid.left e.1.0.here (λ rest at. outcome_here most old.history old.used old.asked xs rest e.1.0.place Outcome.Malformed r.run e.0 at (refused_leads e.1.0.code e.1.0.place e.1.0.why)))
   end_outcome most old xs mid ended.SourceFault new r e = all_some old.left (λ bytes. tt)
   end_outcome most old xs mid ended.SinkFault new r e = all_some old.left (λ bytes. tt)
+  end_outcome most old xs mid ended.Full new r e = all_some old.left (λ bytes. tt)
   end_outcome most old xs mid ended.Disk new r e = all_some old.left (λ bytes. tt)
   end_outcome most old xs mid ended.Memory new r e = all_some old.left (λ bytes. tt)
 

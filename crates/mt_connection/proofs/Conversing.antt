@@ -1,24 +1,18 @@
 -- What became of a message whose head was read, by what its request was answered.
-use Rattle.std.proofs.Common.{◌≡◌, ℕ, ◌+◌, ◌≤◌, [], ◌++◌, length, Option, Some, None, Bool, true, false, inl, inr, ◌⊎◌, refl, ap, sym, subst, ◌∙◌, arith, append-nil, length-append}
+use Rattle.std.proofs.Common.{◌≡◌, ℕ, ◌+◌, ◌≤◌, [], ◌++◌, length, Option, Some, None, true, false, inl, inr, ◌⊎◌, refl, ap, sym, subst, ◌∙◌, arith, append-nil, length-append}
 use Rattle.std.specs.Prelude.{IfSome, is_some}
 use Rattle.std.proofs.lemmas.Option.{IfSome_then}
-use Rattle.md5.specs.Md5.{md5}
-use Rattle.mt_answer.specs.Answer.{Answer}
 use Rattle.mt_answer.specs.Whole.{answer_of}
 use Rattle.mt_answer.proofs.Whole.{one_command}
-use Rattle.mt_answer.specs.Judging.{refusal_of}
 use Rattle.mt_api.specs.Answered.{Answers, Hears, MayStand, Shows, said}
 use Rattle.mt_api.specs.declared.answered.Answered.{Answered}
 use Rattle.mt_api.specs.declared.answered.Answered.TheVariants as answered
 use Rattle.mt_base.specs.Lists.{IsPrefixOf}
 use Rattle.mt_body.specs.Stored.{bytes_of}
-use Rattle.mt_cond.specs.Conditions.{conditions_of}
-use Rattle.mt_cond.specs.declared.conditions.Conditions.{Conditions}
 use Rattle.mt_disk.specs.Files.{Files}
 use Rattle.mt_edge.specs.Stream.{LeftAfter, GotMore}
 use Rattle.mt_engine.specs.Current.{EngineState, IsCurrent, Over, told_size}
 use Rattle.mt_engine.specs.History.{Bytes, History}
-use Rattle.mt_error.specs.declared.refused.Refused.{Refused}
 use Rattle.mt_http.specs.Body.{BodyState, Told, first_state, told_from}
 use Rattle.mt_http.specs.Framing.{HasBody, Place, PlaceAt, SpellsHead, body_of, limit_of}
 use Rattle.mt_http.specs.Options.{interim}
@@ -29,20 +23,16 @@ use Rattle.mt_http.specs.declared.message.Head.{Head}
 use Rattle.mt_log.specs.LogImage.{payloads_of}
 use Rattle.mt_model.specs.CommandStep.{replay}
 use Rattle.mt_model.specs.State.{State}
-use Rattle.mt_reply.specs.declared.stamp.Stamp.{Stamp}
-use Rattle.mt_request.specs.declared.request.Doing.{Doing}
-use Rattle.mt_request.specs.declared.request.Request.{Request}
 use Rattle.mt_types.specs.Values.{reply_body_with, reply_with}
 use Rattle.mt_types.specs.declared.body.Body.{Body}
-use Rattle.mt_types.specs.declared.command.Command.{Command}
 use Rattle.mt_types.specs.declared.reply.Reply.{Reply}
 use Rattle.mt_types.specs.declared.reply.ReplyBody.{ReplyBody}
 use Rattle.mt_types.specs.declared.reply.ReplyBody.TheVariants.{Held, Part}
-use Rattle.mt_connection.specs.Account.{AccountSide}
+use Rattle.mt_runner.specs.Account.{AccountSide}
 use Rattle.mt_connection.specs.Endings.{AllCameAt, CameAt, Cut, GrewBy, Unanswered}
 use Rattle.mt_connection.specs.Sides.{LinkSide, Sides, joined}
-use Rattle.mt_connection.specs.Steps.{CanBeRead, IsBodyOf, text_to}
-use Rattle.mt_connection.specs.Transcript.{Setting, is_head, setting}
+use Rattle.mt_connection.specs.Steps.{CanBeRead, IsBodyOf, plain, text_to}
+use Rattle.mt_connection.specs.Transcript.{Setting, is_head}
 use Rattle.mt_connection.proofs.Reading.{all_some, head_at, message_read, of_mapped, unanswered}
 use Rattle.mt_connection.proofs.Crashes.{all_of}
 use Rattle.mt_connection.proofs.Steps.{Replying, nothing_told}
@@ -122,10 +112,10 @@ led_to result framer login head moment left left' (Some files) seen' engine engi
 abbrev pub standing : AccountSide → History → Option Files → EngineState → AccountSide
 standing x h seen engine = record x { history = h; used = told_size seen engine }
 
-module _ (moments : ℕ → ℕ → Type 0) (login : Bytes) (base : State Bytes) (h : History) (before at : LinkSide) (head : Head) (read : (used : Bytes) × LeftAfter before.left used at.left × SpellsHead used head)
+module _ (slots : ℕ) (moments : ℕ → ℕ → Type 0) (login : Bytes) (base : State Bytes) (h : History) (before at : LinkSide) (head : Head) (read : (used : Bytes) × LeftAfter before.left used at.left × SpellsHead used head)
     (engine engine' : EngineState) (moment : ℕ) (new : LinkSide) (x x' : AccountSide) (M : State Bytes → History → History → Type 0) where
   abbrev here_in : Option Files → Setting
-  here_in seen = setting (is_some before.left) (is_some seen) moments login engine.log.limit base
+  here_in seen = plain (is_some before.left) (is_some seen) moments login slots engine.log.limit base
 
   abbrev old_in : Option Files → Sides
   old_in seen = joined before (standing x h seen engine)

@@ -14,7 +14,7 @@ use Rattle.mt_engine.specs.Current.{EngineState, HasFront, HasNearly, IsBetween,
 use Rattle.mt_engine.specs.History.{Bytes, HasHistory, History}
 use Rattle.mt_engine.specs.Ready.{EngineGoesOn, EngineIsReady}
 use Rattle.mt_model.specs.State.{State}
-use Rattle.mt_connection.specs.Account.{AccountSide, told_time}
+use Rattle.mt_runner.specs.Account.{AccountSide, told_time}
 use Rattle.mt_connection.specs.Steps.{MovesOn}
 use Rattle.mt_connection.specs.Transcript.{HoldsSince}
 

@@ -1,3 +1,4 @@
+pub mod Companies
 pub mod Completeness
 pub mod Conversing
 pub mod Crashes
@@ -8,3 +9,4 @@ pub mod Sending
 pub mod Serving
 pub mod Standing
 pub mod Steps
+pub mod Turned

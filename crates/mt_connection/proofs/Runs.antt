@@ -9,14 +9,20 @@ use Rattle.mt_disk.specs.Files.{Files}
 use Rattle.mt_edge.specs.Stream.{LeftAfter, GotMore}
 use Rattle.mt_edge.proofs.Streams.{left_after, got_more, got_nothing, left_all}
 use Rattle.mt_engine.specs.History.{Bytes, History}
+use Rattle.mt_model.specs.CommandStep.{replay}
 use Rattle.mt_model.specs.State.{State}
-use Rattle.mt_connection.specs.Account.{AccountSide, NoCountFell}
+use Rattle.mt_model.proofs.Replays.{replay_on}
+use Rattle.mt_types.specs.declared.task.Raw.{Raw}
+use Rattle.mt_types.specs.declared.task.Run.{Run as ChildRun}
+use Rattle.mt_runner.specs.Account.{AccountSide, NoCountFell}
+use Rattle.mt_runner.specs.Turning.{companies}
+use Rattle.mt_runner.proofs.Drains.{companies_add, companies_zero}
 use Rattle.mt_connection.specs.Endings.{Ends, IsOpen}
 use Rattle.mt_connection.specs.Sides.{LinkSide, NoneFell, Sides, joined}
 use Rattle.mt_connection.specs.Steps.{Stepped}
 use Rattle.mt_connection.specs.Transcript.{Exchange, Ran, Run, Setting, asked_in, closing, commands_of, growth_of, grown, missed, read_of, said_by, setting}
 use Rattle.mt_connection.specs.declared.end.ConnectionEnd.{ConnectionEnd}
-use Rattle.mt_connection.specs.declared.end.ConnectionEnd.TheVariants.{Ended, Many, Truncated, Refused, SourceFault, SinkFault, Disk, Memory}
+use Rattle.mt_connection.specs.declared.end.ConnectionEnd.TheVariants.{Ended, Many, Truncated, Refused, SourceFault, SinkFault, Full, Disk, Memory}
 use Rattle.mt_connection.specs.declared.end.Step.{Step}
 use Rattle.mt_connection.specs.declared.end.Step.TheVariants as step
 use Rattle.mt_connection.proofs.Crashes.{timed}
@@ -83,12 +89,21 @@ module _ (s : Setting) where
     source = left_all old.left;
     sink = got_nothing old.got;
     missed = omega arith;
+    company = let none = companies_zero s.slots (replay s.base old.history) in omega (arith, none);
     counts = none_fell_self old;
   }
 
+  company_more : (old : Sides) (xs : List Exchange) (mid : Sides) (ys : List Exchange) → mid.history ≡ old.history ++ flat_map commands_of xs
+      → companies s.slots (replay s.base old.history) (flat_map commands_of (xs ++ ys)) ≡ companies s.slots (replay s.base old.history) (flat_map commands_of xs) + companies s.slots (replay s.base mid.history) (flat_map commands_of ys)
+  company_more old xs mid ys is =
+      ap (λ (cs : History). companies s.slots (replay s.base old.history) cs) (flat_map-append commands_of xs ys)
+      ∙ (companies_add s.slots (replay s.base old.history) (flat_map commands_of xs) (flat_map commands_of ys)
+      ∙ ap (λ (st : State Bytes). companies s.slots (replay s.base old.history) (flat_map commands_of xs) + companies s.slots st (flat_map commands_of ys))
+      (sym (replay_on s.base old.history (flat_map commands_of xs)) ∙ ap (λ (k : History). replay s.base k) (sym is)))
+
   -- exchanges after exchanges
   pub ran_more : (old : Sides) (xs : List Exchange) (mid : Sides) (ys : List Exchange) (new : Sides) → list_any closing xs ≡ false → Ran s old xs mid → Ran s mid ys new → Ran s old (xs ++ ys) new
-  ran_more old xs mid ys new none h k = record {
+  ran_more old xs mid ys new none h k = let both = company_more old xs mid ys h.history in record {
     run = run_more old.history old.used old.asked xs ys none h.run
         (subst (λ (n : ℕ). Run s (old.history ++ flat_map commands_of xs) (old.used + grown xs) n ys) h.asked
         (subst (λ (u : ℕ). Run s (old.history ++ flat_map commands_of xs) u mid.asked ys) h.used (subst (λ (hs : History). Run s hs mid.used mid.asked ys) h.history k.run)));
@@ -98,6 +113,7 @@ module _ (s : Setting) where
     source = subst (λ (bytes : Bytes). LeftAfter old.left bytes new.left) (sym (flat_map-append read_of xs ys)) (left_after old.left (flat_map read_of xs) mid.left (flat_map read_of ys) new.left h.source k.source);
     sink = subst (λ (bytes : Bytes). GotMore old.got bytes new.got) (sym (flat_map-append said_by xs ys)) (got_more old.got (flat_map said_by xs) mid.got (flat_map said_by ys) new.got h.sink k.sink);
     missed = let all = missed-append xs ys in let one = h.missed in let two = k.missed in omega (arith, all, one, two);
+    company = let one = h.company in let two = k.company in omega (arith, both, one, two);
     counts = none_fell old mid new h.counts k.counts;
   }
 
@@ -109,6 +125,7 @@ module _ (s : Setting) where
   ends_after since xs old Refused new most free h = (free, (h 1 (omega arith)).1)
   ends_after since xs old SourceFault new most free h = (free, (h 1 (omega arith)).1)
   ends_after since xs old SinkFault new most free h = (free, (h 1 (omega arith)).1, (h 1 (omega arith)).2)
+  ends_after since xs old Full new most free h = (free, (h 1 (omega arith)).1)
   ends_after since xs old Disk new most free h = (free, (h 1 (omega arith)).1, (h 1 (omega arith)).2)
   ends_after since xs old Memory new most free h = (free, (h 1 (omega arith)).1)
 
@@ -116,15 +133,17 @@ pub closing_more : (xs : List Exchange) (x : Exchange) (b : Bool) → list_any c
 closing_more xs x b none is = list_any-append closing xs (x ∷ []) ∙ (ap (λ (c : Bool). c || (closing x || false)) none ∙ (or-false (closing x) ∙ is))
 
 -- a step of a connection in the setting that the connection began with
-pub stepped_here : {R : Type 0} (moments : R → ℕ → ℕ → Type 0) (login : Bytes) (base : State Bytes) (since : ℕ → Files → Type 0) (images : Files → Type 0) (hears hears' knows knows' : Bool) (rule rule' : R) (limit limit' : ℕ)
-    → hears' ≡ hears → knows' ≡ knows → rule' ≡ rule → limit' ≡ limit → (link : LinkSide) (x : AccountSide) (is : Step) (link' : LinkSide) (x' : AccountSide)
-    → Stepped (setting hears' knows' (moments rule') login limit' base) since images (joined link (timed knows' x)) is (joined link' (timed knows' x'))
-    → Stepped (setting hears knows (moments rule) login limit base) since images (joined link (timed knows x)) is (joined link' (timed knows x'))
-stepped_here moments login base since images hears hears' knows knows' rule rule' limit limit' same_hears same_knows same_rule same_limit link x is link' x' s =
-    subst (λ (b : Bool). Stepped (setting b knows (moments rule) login limit base) since images (joined link (timed knows x)) is (joined link' (timed knows x'))) same_hears
-    (subst (λ (b : Bool). Stepped (setting hears' b (moments rule) login limit base) since images (joined link (timed b x)) is (joined link' (timed b x'))) same_knows
-    (subst (λ r. Stepped (setting hears' knows' (moments r) login limit base) since images (joined link (timed knows' x)) is (joined link' (timed knows' x'))) same_rule
-    (subst (λ (l : ℕ). Stepped (setting hears' knows' (moments rule') login l base) since images (joined link (timed knows' x)) is (joined link' (timed knows' x'))) same_limit s)))
+pub stepped_here : {R C : Type 0} (moments : R → ℕ → ℕ → Type 0) (runs : C → ChildRun → Bytes → Raw → Type 0) (login : Bytes) (base : State Bytes) (since : ℕ → Files → Type 0) (images : Files → Type 0) (hears hears' knows knows' : Bool) (rule rule' : R) (child child' : C)
+    (slots slots' limit limit' : ℕ) → hears' ≡ hears → knows' ≡ knows → rule' ≡ rule → child' ≡ child → slots' ≡ slots → limit' ≡ limit → (link : LinkSide) (x : AccountSide) (is : Step) (link' : LinkSide) (x' : AccountSide)
+    → Stepped (setting hears' knows' (moments rule') (runs child') login slots' limit' base) since images (joined link (timed knows' x)) is (joined link' (timed knows' x'))
+    → Stepped (setting hears knows (moments rule) (runs child) login slots limit base) since images (joined link (timed knows x)) is (joined link' (timed knows x'))
+stepped_here moments runs login base since images hears hears' knows knows' rule rule' child child' slots slots' limit limit' same_hears same_knows same_rule same_child same_slots same_limit link x is link' x' s =
+    subst (λ (b : Bool). Stepped (setting b knows (moments rule) (runs child) login slots limit base) since images (joined link (timed knows x)) is (joined link' (timed knows x'))) same_hears
+    (subst (λ (b : Bool). Stepped (setting hears' b (moments rule) (runs child) login slots limit base) since images (joined link (timed b x)) is (joined link' (timed b x'))) same_knows
+    (subst (λ r. Stepped (setting hears' knows' (moments r) (runs child) login slots limit base) since images (joined link (timed knows' x)) is (joined link' (timed knows' x'))) same_rule
+    (subst (λ r. Stepped (setting hears' knows' (moments rule') (runs r) login slots limit base) since images (joined link (timed knows' x)) is (joined link' (timed knows' x'))) same_child
+    (subst (λ (n : ℕ). Stepped (setting hears' knows' (moments rule') (runs child') login n limit base) since images (joined link (timed knows' x)) is (joined link' (timed knows' x'))) same_slots
+    (subst (λ (l : ℕ). Stepped (setting hears' knows' (moments rule') (runs child') login slots' l base) since images (joined link (timed knows' x)) is (joined link' (timed knows' x'))) same_limit s)))))
 
 -- what tells goes on so
 pub still_heard : (old : Option Bytes) (read : Bytes) (new : Option Bytes) → LeftAfter old read new → is_some new ≡ is_some old

@@ -84,3 +84,4 @@ sends_on closing text (step.Over ended.Many) got got' w w' d d' sent = absurd se
 sends_on closing text (step.Over ended.Truncated) got got' w w' d d' sent = absurd sent
 sends_on closing text (step.Over ended.Refused) got got' w w' d d' sent = absurd sent
 sends_on closing text (step.Over ended.SourceFault) got got' w w' d d' sent = absurd sent
+sends_on closing text (step.Over ended.Full) got got' w w' d d' sent = elim sent [ ]

@@ -3,11 +3,13 @@ use Rattle.std.proofs.Common.{◌≡◌, ℕ, ◌+◌, ◌<◌, List, [], ◌∷
 use Rattle.std.specs.Prelude.{is_some}
 use Rattle.std.specs.List.{list_any}
 use Rattle.mt_disk.specs.Files.{Files}
-use Rattle.mt_connection.specs.Endings.{Ends, IsOpen, Quiet, Served}
+use Rattle.mt_base.specs.Counts.{Rose}
+use Rattle.mt_connection.specs.Endings.{ByFault, Ends, IsOpen, Quiet, Served}
 use Rattle.mt_connection.specs.Sides.{NoneFell, Sides}
 use Rattle.mt_connection.specs.Transcript.{Exchange, Ran, Setting, Stand, closing}
 use Rattle.mt_connection.specs.declared.end.ConnectionEnd.{ConnectionEnd}
 use Rattle.mt_connection.specs.declared.end.ConnectionEnd.TheVariants.{Ended, Many}
+use Rattle.mt_connection.specs.declared.end.ConnectionEnd.TheVariants as ended
 use Rattle.mt_connection.proofs.Completeness.{ends_by_bytes}
 use Rattle.mt_connection.proofs.Runs.{ends_after, none_fell_self}
 
@@ -33,3 +35,16 @@ module _ (s : Setting) (since : ℕ → Files → Type 0) (most : ℕ) (old : Si
   -- as many messages as a connection has were answered
   pub served_many : (xs : List Exchange) (new : Sides) → list_any closing xs ≡ false → Ran s old xs new → Stand s since old.history old.time xs new.time → length xs ≡ most → Served s since most old Many new
   served_many xs new none ran stand count = served_as xs new Many new ran stand (none_fell_self new) (none, count, refl, quiet_self new)
+
+-- a fault that the end names was counted
+pub served_by_fault : (s : Setting) (since : ℕ → Files → Type 0) (most : ℕ) (old : Sides) (end : ConnectionEnd) (new : Sides) → Served s since most old end new
+    → ByFault end (Rose old.read_faults new.read_faults) (Rose old.write_faults new.write_faults) (Rose old.disk_faults new.disk_faults)
+served_by_fault s since most old ended.Ended new v = tt
+served_by_fault s since most old ended.Many new v = tt
+served_by_fault s since most old ended.Truncated new v = tt
+served_by_fault s since most old ended.Refused new v = tt
+served_by_fault s since most old ended.SourceFault new v = let before = v.ran.counts.read in let rose = v.ends.1.3 in omega (arith, before, rose)
+served_by_fault s since most old ended.SinkFault new v = let before = v.ran.counts.write in let rose = v.ends.2 in omega (arith, before, rose)
+served_by_fault s since most old ended.Full new v = tt
+served_by_fault s since most old ended.Disk new v = let before = v.ran.counts.account.disk in let rose = v.ends.2 in omega (arith, before, rose)
+served_by_fault s since most old ended.Memory new v = tt

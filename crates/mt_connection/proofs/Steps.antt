@@ -1,8 +1,8 @@
--- One step of a connection, by what became of its message.
-use Rattle.std.proofs.Common.{◌≡◌, ℕ, ◌+◌, ◌≤◌, ◌<◌, [], ◌++◌, Option, true, inl, inr, ◌⊎◌, refl, ap, sym, subst, ◌∙◌, arith, append-nil}
+-- What became of one message, before its turn.
+use Rattle.std.proofs.Common.{◌≡◌, ℕ, ◌+◌, ◌≤◌, [], ◌++◌, Option, true, inl, inr, ◌⊎◌, refl, ap, sym, subst, ◌∙◌, arith, append-nil}
 use Rattle.std.specs.Prelude.{IfSome}
 use Rattle.mt_answer.specs.Answer.{Answer}
-use Rattle.mt_base.specs.Counts.{NeverFell, Rose}
+use Rattle.mt_base.specs.Counts.{NeverFell, Rose, RoseBy}
 use Rattle.mt_base.specs.Lists.{IsPrefixOf}
 use Rattle.mt_disk.specs.Files.{Files}
 use Rattle.mt_edge.specs.Stream.{LeftAfter, GotMore}
@@ -13,18 +13,17 @@ use Rattle.mt_http.specs.Framing.{Place, PlaceAt}
 use Rattle.mt_http.specs.Options.{closes, interim}
 use Rattle.mt_http.specs.ReplyText.{reply_text}
 use Rattle.mt_http.specs.declared.message.Head.{Head}
-use Rattle.mt_connection.specs.Account.{asked_again}
-use Rattle.mt_connection.specs.Endings.{Cut, IsCutEarly, IsOpen, IsTruncated, IsUnread, Quiet, Refusing, Settled, Unanswered, refusal_text}
+use Rattle.mt_model.specs.CommandStep.{replay}
+use Rattle.mt_runner.specs.Account.{asked_again}
+use Rattle.mt_connection.specs.Endings.{Cut, IsCutEarly, IsTruncated, IsUnread, Quiet, Refusing, Settled, Unanswered, refusal_text}
 use Rattle.mt_connection.specs.Sides.{NoneFell, Sides}
-use Rattle.mt_connection.specs.Steps.{Refuses, Sends, Stepped}
+use Rattle.mt_connection.specs.Steps.{Refuses, Sends, TakesMessage}
 use Rattle.mt_connection.specs.Transcript.{Exchange, HoldsSince, IsTheAnswer, Setting, SpellsBoth, is_head}
-use Rattle.mt_connection.specs.Turning.{no_turn}
+use Rattle.mt_runner.specs.Turning.{companies, no_turn}
 use Rattle.mt_connection.specs.declared.end.ConnectionEnd.TheVariants as ended
 use Rattle.mt_connection.specs.declared.end.Step.{Step}
 use Rattle.mt_connection.specs.declared.end.Step.TheVariants as step
-
-pub open_at_first : (most : ℕ) → 0 < most → IsOpen most []
-open_at_first most some = record { none = refl; few = some }
+use Rattle.mt_connection.proofs.Companies.{no_company}
 
 -- A message was read and answered: its command stands, and this is the text of its reply.
 pub record Replying (s : Setting) (old new : Sides) (head : Head) (text : Bytes) : Type 0 where
@@ -97,7 +96,7 @@ module _ (s : Setting) (since : ℕ → Files → Type 0) (images : Files → Ty
 
   module _ (no_turns : (k : History) (used asked : ℕ) → s.turned k used asked (no_turn asked)) (here : s.knows ≡ true → (c : Files) → images c → HasHistory s.base new.history c) where
     pub stepped_reply : (result : Step) (mid : Option Bytes) (w d : ℕ) → GotMore old.got (interim head) mid → Sends (closes head.minor head.fields) text result mid new.got w new.write_faults d new.disk_faults
-        → Counted old new w d → Stepped s since images old result new
+        → Counted old new w d → TakesMessage s since images old result new
     stepped_reply (step.Went closed) mid w d before sent counted =
         let fell = none_fell_by old new w d counted sent.2 sent.3 in
         let said : GotMore old.got (interim head ++ text) new.got = got_more old.got (interim head) mid text new.got before sent.1 in
@@ -112,6 +111,9 @@ module _ (s : Setting) (since : ℕ → Files → Type 0) (images : Files → Ty
             source = subst (λ (bytes : Bytes). LeftAfter old.left bytes new.left) (sym (append-nil r.read)) r.source;
             sink = subst (λ (bytes : Bytes). GotMore old.got bytes new.got) (ap (λ (t : Bytes). interim head ++ t) (sym r.is_text) ∙ sym (append-nil (interim head ++ reply_text r.answer.reply (is_head head)))) said;
             missed = let tasks = counted.tasks in let spawn = ap (λ t. t.faults) tasks in let waits = ap (λ t. t.waits) tasks in omega (arith, spawn, waits);
+            company = subst (λ (n : ℕ). RoseBy n old.tasks.company new.tasks.company)
+                (sym (ap (λ (cs : History). companies s.slots (replay s.base old.history) cs) (append-nil (r.answer.added ++ []) ∙ append-nil r.answer.added) ∙ no_company s old.history old.used head r.body r.moment r.answer r.answered))
+                (let tasks = ap (λ t. t.company) counted.tasks in omega (arith, tasks));
             counts = fell;
           },
           (t.from, (λ knows. subst (λ (k : History). HoldsSince since t.settled s.base k) r.history (t.holds knows)), t.to),
@@ -119,27 +121,19 @@ module _ (s : Setting) (since : ℕ → Files → Type 0) (images : Files → Ty
     stepped_reply (step.Over ended.SinkFault) mid w d before sent counted =
         let written = sent.0.written in
         let fell = let rose = sent.1 in none_fell_by old new w d counted (omega (arith, rose)) sent.2 in (
-          (λ most some. (
-            open_at_first most some,
-            inl (inl (cut_of written sent.0.front (got_more old.got (interim head) mid written new.got before sent.0.grew), r.used)),
-            (let rose = sent.1 in let one = counted.write in omega (arith, rose, one)),
-          )),
+          (inl (inl (cut_of written sent.0.front (got_more old.got (interim head) mid written new.got before sent.0.grew), r.used)), (let rose = sent.1 in let one = counted.write in omega (arith, rose, one))),
           fell,
           here,
         )
     stepped_reply (step.Over ended.Disk) mid w d before sent counted =
         let written = sent.0.written in
         let fell = let rose = sent.2 in none_fell_by old new w d counted sent.1 (omega (arith, rose)) in (
-          (λ most some. (
-            open_at_first most some,
-            inl (cut_of written sent.0.front (got_more old.got (interim head) mid written new.got before sent.0.grew)),
-            (let rose = sent.2 in let one = counted.disk in omega (arith, rose, one)),
-          )),
+          (inl (cut_of written sent.0.front (got_more old.got (interim head) mid written new.got before sent.0.grew)), (let rose = sent.2 in let one = counted.disk in omega (arith, rose, one))),
           fell,
           (λ knows c image. record { history = new.history; has = here knows c image; front = ([], append-nil new.history); last = omega arith }),
         )
     stepped_reply (step.Over ended.Memory) mid w d before sent counted = (
-      (λ most some. (open_at_first most some, inl (cut_of [] (text, refl) (got_more old.got (interim head) mid [] new.got before (subst (λ (got : Option Bytes). GotMore mid [] got) (sym sent.0) (got_nothing mid)))))),
+      inl (cut_of [] (text, refl) (got_more old.got (interim head) mid [] new.got before (subst (λ (got : Option Bytes). GotMore mid [] got) (sym sent.0) (got_nothing mid)))),
       none_fell_by old new w d counted sent.1 sent.2,
       here,
     )
@@ -148,27 +142,28 @@ module _ (s : Setting) (since : ℕ → Files → Type 0) (images : Files → Ty
     stepped_reply (step.Over ended.Truncated) mid w d before sent counted = absurd sent
     stepped_reply (step.Over ended.Refused) mid w d before sent counted = absurd sent
     stepped_reply (step.Over ended.SourceFault) mid w d before sent counted = absurd sent
+    stepped_reply (step.Over ended.Full) mid w d before sent counted = absurd sent
 
 -- what is no message was refused
 module _ (s : Setting) (since : ℕ → Files → Type 0) (images : Files → Type 0) (old new : Sides) (before text : Bytes)
     (refusing : (written : Bytes) → IsPrefixOf written text → GotMore old.got (before ++ written) new.got → (r : Refusing s since old new) × (r.written ≡ written) × (refusal_text r.code r.count r.moment ≡ text))
     (silent : GotMore old.got before new.got → Unanswered old new) (here : s.knows ≡ true → (c : Files) → images c → HasHistory s.base new.history c) where
-  pub stepped_refusal : (result : Step) (mid : Option Bytes) (w : ℕ) → GotMore old.got before mid → Refuses text result mid new.got w new.write_faults → Counted old new w new.disk_faults → Stepped s since images old result new
+  pub stepped_refusal : (result : Step) (mid : Option Bytes) (w : ℕ) → GotMore old.got before mid → Refuses text result mid new.got w new.write_faults → Counted old new w new.disk_faults → TakesMessage s since images old result new
   stepped_refusal (step.Over ended.Refused) mid w so_far wrote counted =
       let r = refusing text ([], append-nil text) (got_more old.got before mid text new.got so_far wrote.0) in (
-        (λ most some. (open_at_first most some, (r.0, r.1 ∙ sym r.2))),
+        (r.0, r.1 ∙ sym r.2),
         none_fell_by old new w new.disk_faults counted wrote.1 (omega arith),
         here,
       )
   stepped_refusal (step.Over ended.SinkFault) mid w so_far wrote counted =
       let r = refusing wrote.0.written wrote.0.front (got_more old.got before mid wrote.0.written new.got so_far wrote.0.grew) in
       let rose = wrote.1 in (
-        (λ most some. (open_at_first most some, inr r.0, (let one = counted.write in omega (arith, rose, one)))),
+        (inr r.0, (let one = counted.write in omega (arith, rose, one))),
         none_fell_by old new w new.disk_faults counted (omega (arith, rose)) (omega arith),
         here,
       )
   stepped_refusal (step.Over ended.Memory) mid w so_far wrote counted = (
-    (λ most some. (open_at_first most some, inr (silent (subst (λ (got : Option Bytes). GotMore old.got before got) (sym wrote.0) so_far)))),
+    inr (silent (subst (λ (got : Option Bytes). GotMore old.got before got) (sym wrote.0) so_far)),
     none_fell_by old new w new.disk_faults counted wrote.1 (omega arith),
     here,
   )
@@ -177,26 +172,27 @@ module _ (s : Setting) (since : ℕ → Files → Type 0) (images : Files → Ty
   stepped_refusal (step.Over ended.Many) mid w so_far wrote counted = absurd wrote
   stepped_refusal (step.Over ended.Truncated) mid w so_far wrote counted = absurd wrote
   stepped_refusal (step.Over ended.SourceFault) mid w so_far wrote counted = absurd wrote
+  stepped_refusal (step.Over ended.Full) mid w so_far wrote counted = absurd wrote
   stepped_refusal (step.Over ended.Disk) mid w so_far wrote counted = absurd wrote
 
 -- nothing was added
 module _ (s : Setting) (since : ℕ → Files → Type 0) (images : Files → Type 0) (old new : Sides) (fell : NoneFell old new) (here : s.knows ≡ true → (c : Files) → images c → HasHistory s.base new.history c) where
-  pub stepped_ended : Quiet old new → IfSome old.left (λ bytes. PlaceAt bytes Place.End) → Stepped s since images old (step.Over ended.Ended) new
-  stepped_ended quiet place = ((λ most some. (inr (open_at_first most some, place), quiet)), fell, here)
+  pub stepped_ended : Quiet old new → IfSome old.left (λ bytes. PlaceAt bytes Place.End) → TakesMessage s since images old (step.Over ended.Ended) new
+  stepped_ended quiet place = ((place, quiet), fell, here)
 
-  pub stepped_truncated : IsTruncated s old new → Stepped s since images old (step.Over ended.Truncated) new
-  stepped_truncated is = ((λ most some. (open_at_first most some, is)), fell, here)
+  pub stepped_truncated : IsTruncated s old new → TakesMessage s since images old (step.Over ended.Truncated) new
+  stepped_truncated is = (is, fell, here)
 
-  pub stepped_unread : IsUnread s old new → Stepped s since images old (step.Over ended.SourceFault) new
-  stepped_unread is = ((λ most some. (open_at_first most some, is)), fell, here)
+  pub stepped_unread : IsUnread s old new → TakesMessage s since images old (step.Over ended.SourceFault) new
+  stepped_unread is = (is, fell, here)
 
-  pub stepped_cut_early : IsCutEarly old new → Rose old.write_faults new.write_faults → Stepped s since images old (step.Over ended.SinkFault) new
-  stepped_cut_early is rose = ((λ most some. (open_at_first most some, inl (inr is), rose)), fell, here)
+  pub stepped_cut_early : IsCutEarly old new → Rose old.write_faults new.write_faults → TakesMessage s since images old (step.Over ended.SinkFault) new
+  stepped_cut_early is rose = ((inl (inr is), rose), fell, here)
 
-  pub stepped_memory : Unanswered old new → Stepped s since images old (step.Over ended.Memory) new
-  stepped_memory is = ((λ most some. (open_at_first most some, inr is)), fell, here)
+  pub stepped_memory : Unanswered old new → TakesMessage s since images old (step.Over ended.Memory) new
+  stepped_memory is = (inr is, fell, here)
 
 -- the disk failed before a byte of a reply was written
 pub stepped_disk : (s : Setting) (since : ℕ → Files → Type 0) (images : Files → Type 0) (old new : Sides) → NoneFell old new → Cut s since old new ⊎ Unanswered old new → Rose old.disk_faults new.disk_faults
-    → (s.knows ≡ true → (c : Files) → images c → HasNearly s.base new.history c) → Stepped s since images old (step.Over ended.Disk) new
-stepped_disk s since images old new fell is rose nearly = ((λ most some. (open_at_first most some, is, rose)), fell, nearly)
+    → (s.knows ≡ true → (c : Files) → images c → HasNearly s.base new.history c) → TakesMessage s since images old (step.Over ended.Disk) new
+stepped_disk s since images old new fell is rose nearly = ((is, rose), fell, nearly)

@@ -1,5 +1,5 @@
 -- How a connection ends, and what a crash may leave then.
-use Rattle.std.specs.Prelude.{◌≡◌, ◌≢◌, ◌⊎◌, ℕ, ◌+◌, ◌<◌, ◌≤◌, true, false, List, [], ◌++◌, length, Option, Some, None, IfSome, IsTrue}
+use Rattle.std.specs.Prelude.{◌≡◌, ◌≢◌, ◌⊎◌, ℕ, ◌+◌, ◌<◌, ◌≤◌, true, false, List, [], ◌∷◌, ◌++◌, length, Option, Some, None, IfSome, IsTrue}
 use Rattle.std.specs.List.{list_any}
 use Rattle.mt_answer.specs.Answer.{Answer}
 use Rattle.mt_answer.specs.Judging.{stored_asked}
@@ -24,8 +24,10 @@ use Rattle.mt_model.specs.State.{State}
 use Rattle.mt_reply.specs.Replies.{error_reply}
 use Rattle.mt_request.specs.Requests.{asked_of}
 use Rattle.mt_connection.specs.Outcomes.{ByEnd}
-use Rattle.mt_connection.specs.Sides.{NoneFell, Sides}
-use Rattle.mt_connection.specs.Transcript.{Exchange, HoldsSince, IsTheAnswer, Ran, Setting, SpellsBoth, Stand, closing, is_head}
+use Rattle.mt_runner.specs.Account.{AccountSide}
+use Rattle.mt_runner.specs.Turning.{Broke, IsFull, Unmoved}
+use Rattle.mt_connection.specs.Sides.{NoneFell, Sides, account_of, link_of}
+use Rattle.mt_connection.specs.Transcript.{Exchange, HoldsSince, IsTheAnswer, Ran, Setting, SpellsBoth, Stand, closing, is_head, still, working}
 use Rattle.mt_connection.specs.declared.end.ConnectionEnd.{ConnectionEnd}
 use Rattle.mt_connection.specs.declared.end.ConnectionEnd.TheVariants as ended
 
@@ -128,6 +130,15 @@ pub record Refusing (s : Setting) (since : ℕ → Files → Type 0) (old new : 
 abbrev pub IsRefused : Setting → (ℕ → Files → Type 0) → Sides → Sides → Type 0
 IsRefused s since old new = (r : Refusing s since old new) × (r.written ≡ refusal_text r.code r.count r.moment)
 
+-- One more message was answered, its reply was written whole, and the turn behind it did this.
+pub record Halted (s : Setting) (since : ℕ → Files → Type 0) (old new : Sides) (Did : AccountSide → AccountSide → Type 0) : Type 0 where
+  pub exchange : Exchange
+  pub middle : Sides
+  pub answered : Ran (still s) old (exchange ∷ []) middle
+  pub stand : Stand s since old.history old.time (exchange ∷ []) middle.time
+  pub did : Did (account_of middle) (account_of new)
+  pub link : link_of new ≡ link_of middle
+
 -- none of these messages closes, and one more may be read
 pub record IsOpen (most : ℕ) (xs : List Exchange) : Type 0 where
   pub none : list_any closing xs ≡ false
@@ -167,8 +178,10 @@ IsCutEarly old new = Unanswered old new × (new.used ≡ old.used) × ReadsHead 
 --   SinkFault      a message                 its interim reply, a front of its reply    with its command
 --                  its head                  a front of its interim reply          as they were
 --                  what is no message        its interim reply, a front of the refusal    as it was; with what was stored of its body
+--   Full           a message                 its interim reply, its reply          with its command; the turn behind it added nothing
 --   Disk, Memory   a message                 its interim reply, a front of its reply    with its command
 --                  any front                 a front of its interim reply          as it was
+--                  a message                 its interim reply, its reply          with its command; of Disk, that of the turn behind it stands or not
 abbrev pub Ends : Setting → (ℕ → Files → Type 0) → ℕ → List Exchange → Sides → ConnectionEnd → Sides → Type 0
 Ends s since most xs old ended.Ended new = IsAtEnd most xs old new × Quiet old new
 Ends s since most xs old ended.Many new = (list_any closing xs ≡ false) × (length xs ≡ most) × (new.left ≡ old.left) × Quiet old new
@@ -176,8 +189,16 @@ Ends s since most xs old ended.Truncated new = IsOpen most xs × IsTruncated s o
 Ends s since most xs old ended.Refused new = IsOpen most xs × IsRefused s since old new
 Ends s since most xs old ended.SourceFault new = IsOpen most xs × IsUnread s old new
 Ends s since most xs old ended.SinkFault new = IsOpen most xs × ((IsCut s since old new ⊎ IsCutEarly old new) ⊎ Refusing s since old new) × Rose old.write_faults new.write_faults
-Ends s since most xs old ended.Disk new = IsOpen most xs × (Cut s since old new ⊎ Unanswered old new) × Rose old.disk_faults new.disk_faults
-Ends s since most xs old ended.Memory new = IsOpen most xs × (Cut s since old new ⊎ Unanswered old new)
+Ends s since most xs old ended.Full new = IsOpen most xs × Halted s since old new (IsFull (working s))
+Ends s since most xs old ended.Disk new = IsOpen most xs × ((Cut s since old new ⊎ Unanswered old new) ⊎ Halted s since old new (Broke (working s))) × Rose old.disk_faults new.disk_faults
+Ends s since most xs old ended.Memory new = IsOpen most xs × ((Cut s since old new ⊎ Unanswered old new) ⊎ Halted s since old new Unmoved)
+
+-- an end that names a fault comes only where the count of what failed rose
+abbrev pub ByFault : ConnectionEnd → (read write disk : Type 0) → Type 0
+ByFault ended.SourceFault read write disk = read
+ByFault ended.SinkFault read write disk = write
+ByFault ended.Disk read write disk = disk
+ByFault _ read write disk = Unit {0}
 
 -- One connection: exchanges, and then its end, which is the one to which its bytes lead. From its answer on each image has what each
 -- reply tells of.

@@ -1,5 +1,3 @@
-pub mod Account
-pub mod Turning
 pub mod Sides
 pub mod Transcript
 pub mod Outcomes

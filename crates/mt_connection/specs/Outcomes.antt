@@ -42,5 +42,6 @@ ByEnd most bytes ended.Refused = OutcomeAt most bytes Malformed
 ByEnd most bytes ended.Many = OutcomeAt most bytes TooMany
 ByEnd most bytes ended.SourceFault = Unit {0}
 ByEnd most bytes ended.SinkFault = Unit {0}
+ByEnd most bytes ended.Full = Unit {0}
 ByEnd most bytes ended.Disk = Unit {0}
 ByEnd most bytes ended.Memory = Unit {0}

@@ -1,5 +1,5 @@
--- What the parts of one exchange do: a head is read, a reply is sent, a refusal is written; and the whole of it.
-use Rattle.std.specs.Prelude.{◌≡◌, ℕ, ◌-◌, ◌<◌, ◌≤◌, Bool, true, [], ◌∷◌, length, take, drop, false, Option, is_some, Err}
+-- What the parts of one exchange do: a head is read, a reply is sent, a refusal is written, a turn is taken; and the whole of it.
+use Rattle.std.specs.Prelude.{◌≡◌, ◌⊎◌, ℕ, ◌-◌, ◌<◌, ◌≤◌, Bool, true, [], ◌∷◌, length, take, drop, false, Option, IfSome, is_some, Err}
 use Rattle.std.specs.Option.{ForSome}
 use Rattle.mt_base.specs.Counts.{NeverFell, Rose}
 use Rattle.mt_base.specs.Lists.{IsPrefixOf}
@@ -9,7 +9,7 @@ use Rattle.mt_disk.specs.Files.{Files}
 use Rattle.mt_edge.specs.Stream.{GotMore, LeftAfter, WritesFront}
 use Rattle.mt_engine.specs.Current.{EngineState, IsBetween, Over}
 use Rattle.mt_engine.specs.History.{Bytes, History}
-use Rattle.mt_http.specs.Framing.{ReceivesHead, SpellsHead}
+use Rattle.mt_http.specs.Framing.{Place, PlaceAt, ReceivesHead, SpellsHead}
 use Rattle.mt_http.specs.Options.{interim, interim_line, wants_interim}
 use Rattle.mt_http.specs.ReplyText.{text_with}
 use Rattle.mt_http.specs.declared.message.Head.{Head}
@@ -19,9 +19,12 @@ use Rattle.mt_types.specs.declared.body.Body.{Body}
 use Rattle.mt_types.specs.declared.reply.Reply.{Reply}
 use Rattle.mt_types.specs.declared.reply.ReplyBody.{ReplyBody}
 use Rattle.mt_types.specs.declared.reply.ReplyBody.TheVariants.{Held, Part}
-use Rattle.mt_connection.specs.Endings.{Ends, Images}
+use Rattle.mt_runner.specs.declared.turn.Turn.{Turn}
+use Rattle.mt_runner.specs.declared.turn.Turn.TheVariants as turn
+use Rattle.mt_connection.specs.Endings.{Cut, Ends, Images, IsCut, IsCutEarly, IsRefused, IsTruncated, IsUnread, Quiet, Refusing, Unanswered}
 use Rattle.mt_connection.specs.Sides.{LinkSide, NoneFell, Sides}
-use Rattle.mt_connection.specs.Transcript.{Exchange, Ran, Setting, Stand, closing, is_head}
+use Rattle.mt_connection.specs.Transcript.{Exchange, Ran, Setting, Stand, closing, is_head, setting, still}
+use Rattle.mt_connection.specs.declared.end.ConnectionEnd.{ConnectionEnd}
 use Rattle.mt_connection.specs.declared.end.ConnectionEnd.TheVariants as ended
 use Rattle.mt_connection.specs.declared.end.Step.{Step}
 use Rattle.mt_connection.specs.declared.end.Step.TheVariants as step
@@ -74,6 +77,34 @@ Receives (received.Nothing end) old new =
 Receives received.SinkFault old new =
     ((head : Head) × (wants_interim head ≡ true) × (read : Bytes) × LeftAfter old.left read new.left × SpellsHead read head) × WritesFront old.got interim_line new.got
     × NeverFell old.read_faults new.read_faults × Rose old.write_faults new.write_faults
+
+-- The setting of one message until its turn: no turn is taken, and nothing is said of children.
+abbrev pub plain : Bool → Bool → (ℕ → ℕ → Type 0) → Bytes → (slots limit : ℕ) → State Bytes → Setting
+plain hears knows moments login slots limit base = still (setting hears knows moments (λ run input raw. ⊥) login slots limit base)
+
+-- how a message ends its connection before a turn, or that none stands there
+abbrev pub Stops : Setting → (ℕ → Files → Type 0) → Sides → ConnectionEnd → Sides → Type 0
+Stops s since old ended.Ended new = IfSome old.left (λ bytes. PlaceAt bytes Place.End) × Quiet old new
+Stops s since old ended.Truncated new = IsTruncated s old new
+Stops s since old ended.Refused new = IsRefused s since old new
+Stops s since old ended.SourceFault new = IsUnread s old new
+Stops s since old ended.SinkFault new = ((IsCut s since old new ⊎ IsCutEarly old new) ⊎ Refusing s since old new) × Rose old.write_faults new.write_faults
+Stops s since old ended.Disk new = (Cut s since old new ⊎ Unanswered old new) × Rose old.disk_faults new.disk_faults
+Stops s since old ended.Memory new = Cut s since old new ⊎ Unanswered old new
+Stops s since old _ new = ⊥
+
+-- One message before its turn: it was answered, or the connection is over.
+abbrev pub TakesMessage : Setting → (ℕ → Files → Type 0) → (Files → Type 0) → Sides → Step → Sides → Type 0
+TakesMessage s since images old (step.Went closed) new =
+    (x : Exchange) × (closing x ≡ closed) × Ran s old (x ∷ []) new × Stand s since old.history old.time (x ∷ []) new.time
+TakesMessage s since images old (step.Over end) new = Stops s since old end new × NoneFell old new × (s.knows ≡ true → Images end s.base new.history images)
+
+-- how a connection goes on behind the turn of a message after which it closes or goes on
+abbrev pub step_of_turn : Bool → Turn → Step
+step_of_turn closing turn.Full = step.Over ended.Full
+step_of_turn closing turn.Disk = step.Over ended.Disk
+step_of_turn closing turn.Memory = step.Over ended.Memory
+step_of_turn closing _ = step.Went closing
 
 -- One step of a connection: a whole exchange, or the end. Images are what a crash now may leave, and since at some moment from one on.
 abbrev pub Stepped : Setting → (ℕ → Files → Type 0) → (Files → Type 0) → Sides → Step → Sides → Type 0

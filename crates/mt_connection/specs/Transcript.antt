@@ -16,9 +16,11 @@ use Rattle.mt_http.specs.declared.message.Ending.TheVariants.{Whole}
 use Rattle.mt_http.specs.declared.message.Head.{Head}
 use Rattle.mt_model.specs.CommandStep.{replay}
 use Rattle.mt_model.specs.State.{State}
-use Rattle.mt_connection.specs.Account.{asked_again}
+use Rattle.mt_runner.specs.Account.{asked_again}
+use Rattle.mt_types.specs.declared.task.Raw.{Raw}
+use Rattle.mt_types.specs.declared.task.Run.{Run as ChildRun}
 use Rattle.mt_connection.specs.Sides.{NoneFell, Sides}
-use Rattle.mt_connection.specs.Turning.{TurnTaken, no_turn}
+use Rattle.mt_runner.specs.Turning.{MayTurn, TurnTaken, Working, companies, no_turn, working_of}
 
 -- what stays the same while a connection is served
 pub record Setting : Type 1 where
@@ -27,7 +29,11 @@ pub record Setting : Type 1 where
   pub knows : Bool
   -- the moments that the call of a number of the clock may give
   pub moments : ℕ → ℕ → Type 0
+  -- the outcomes that a child may give, run so on these bytes
+  pub runs : ChildRun → Bytes → Raw → Type 0
   pub login : Bytes
+  -- how many children run at once
+  pub slots : ℕ
   -- how many bytes the log may have
   pub limit : ℕ
   -- the state behind which the history stands
@@ -35,17 +41,27 @@ pub record Setting : Type 1 where
   -- the turns that may follow a history, a log of so many bytes and so many calls of the clock
   pub turned : History → ℕ → ℕ → TurnTaken → Type 0
 
--- a setting in which no turns are taken
-abbrev pub setting : Bool → Bool → (ℕ → ℕ → Type 0) → Bytes → ℕ → State Bytes → Setting
-setting hears knows moments login limit base = record {
+-- what stays the same over its turns
+abbrev pub working : Setting → Working
+working s = working_of s.knows s.moments s.runs s.login s.slots s.limit s.base
+
+-- a setting in which a turn follows each message
+abbrev pub setting : Bool → Bool → (ℕ → ℕ → Type 0) → (ChildRun → Bytes → Raw → Type 0) → Bytes → (slots limit : ℕ) → State Bytes → Setting
+setting hears knows moments runs login slots limit base = record {
   hears = hears;
   knows = knows;
   moments = moments;
+  runs = runs;
   login = login;
+  slots = slots;
   limit = limit;
   base = base;
-  turned = λ history used asked turn. turn ≡ no_turn asked;
+  turned = MayTurn (working_of knows moments runs login slots limit base);
 }
+
+-- the same setting without turns
+abbrev pub still : Setting → Setting
+still s = record s { turned = λ history used asked turn. turn ≡ no_turn asked }
 
 -- one message with its answer: a reply, the commands that stand before it, and by how much the log grew; and the turn behind it
 pub record Exchange : Type 0 where
@@ -130,6 +146,7 @@ pub record Ran (s : Setting) (old : Sides) (xs : List Exchange) (new : Sides) : 
   pub source : LeftAfter old.left (flat_map read_of xs) new.left
   pub sink : GotMore old.got (flat_map said_by xs) new.got
   pub missed : RoseBy (missed xs) (old.tasks.waits + old.tasks.faults) (new.tasks.waits + new.tasks.faults)
+  pub company : RoseBy (companies s.slots (replay s.base old.history) (flat_map commands_of xs)) old.tasks.company new.tasks.company
   pub counts : NoneFell old new
 
 -- at each moment from this one on a crash leaves a history that begins so

@@ -1,9 +1,8 @@
-//! One exchange: a message is read, answered, and its reply is sent.
-ghost use Rattle.std.specs.Prelude.{◌≡◌, ◌≢◌, false, true, is_some};
-ghost use Rattle.mt_connection.specs.Account.{no_tasks, told_time};
+//! One message is read, answered, and its reply is sent.
+ghost use Rattle.std.specs.Prelude.{◌≡◌, ◌≢◌, ℕ, false, true, is_some};
+ghost use Rattle.mt_runner.specs.Account.{Tasks, told_time};
 ghost use Rattle.mt_connection.specs.Sides.{side_of, sides};
-ghost use Rattle.mt_connection.specs.Steps.{MovesOn, Stepped};
-ghost use Rattle.mt_connection.specs.Transcript.{setting};
+ghost use Rattle.mt_connection.specs.Steps.{MovesOn, TakesMessage, plain};
 ghost use Rattle.mt_engine.specs.Current.{Over};
 ghost use Rattle.mt_engine.specs.History.{Bytes, History};
 ghost use Rattle.mt_engine.specs.Ready.{EngineGoesOn, EngineIsReady};
@@ -23,7 +22,7 @@ use std::alloc::Global;
 
 /// Reads one message from a link and answers it. Its interim reply is written before its body is read, and its reply once its
 /// command is on the disk. Its moment is that of a call of the clock of its own, behind its head.
-pub fn exchange<D: Disk, C: Clock, L: Both>(
+pub(crate) fn answer_message<D: Disk, C: Clock, L: Both>(
     alloc: Global,
     login: &str,
     engine: &mut Engine,
@@ -32,12 +31,12 @@ pub fn exchange<D: Disk, C: Clock, L: Both>(
     link: &mut L,
 ) -> Step
     requires ready { EngineIsReady D.seen D.may_leave disk.old engine.old }
-    // Over each history that the disk stands for, where it tells what it holds: the step, the history that it leads to, and what a
-    // crash at any moment of it leaves.
-    ensures step { (base : State Bytes) (h : History) → Over (D.seen disk.old) engine.old base h → (k : History)
-        × Stepped (setting (is_some (L.left link.old)) (is_some (D.seen disk.old)) (C.gives (C.rule clock.old)) login.now engine.old.log.limit base) (D.left_since disk.new) (D.may_leave disk.new)
-        (sides (side_of L.left L.got L.read_faults L.write_faults link.old) h (D.seen disk.old) (D.faults disk.old) (told_time (is_some (D.seen disk.old)) (D.moment disk.old)) (C.asked clock.old) engine.old no_tasks) result
-        (sides (side_of L.left L.got L.read_faults L.write_faults link.new) k (D.seen disk.new) (D.faults disk.new) (told_time (is_some (D.seen disk.old)) (D.moment disk.new)) (C.asked clock.new) engine.new no_tasks)
+    // Over each history that the disk stands for, where it tells what it holds, and however tasks stand, which it leaves alone: what
+    // became of the message, the history that it leads to, and what a crash at any moment of it leaves.
+    ensures takes { (slots : ℕ) (tasks : Tasks) (base : State Bytes) (h : History) → Over (D.seen disk.old) engine.old base h → (k : History)
+        × TakesMessage (plain (is_some (L.left link.old)) (is_some (D.seen disk.old)) (C.gives (C.rule clock.old)) login.now slots engine.old.log.limit base) (D.left_since disk.new) (D.may_leave disk.new)
+        (sides (side_of L.left L.got L.read_faults L.write_faults link.old) h (D.seen disk.old) (D.faults disk.old) (told_time (is_some (D.seen disk.old)) (D.moment disk.old)) (C.asked clock.old) engine.old tasks) result
+        (sides (side_of L.left L.got L.read_faults L.write_faults link.new) k (D.seen disk.new) (D.faults disk.new) (told_time (is_some (D.seen disk.old)) (D.moment disk.new)) (C.asked clock.new) engine.new tasks)
         × MovesOn D.seen D.moment D.left_since disk.old disk.new engine.new base h k }
     ensures goes_on { EngineGoesOn D.seen D.may_leave D.faults disk.old disk.new engine.old engine.new }
     ensures live { result ≢ Step.Over ConnectionEnd.Disk → result ≢ Step.Over ConnectionEnd.Memory → engine.new.log.closed ≡ false }

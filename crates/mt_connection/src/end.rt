@@ -15,6 +15,8 @@ pub enum ConnectionEnd {
     SourceFault,
     /// The sink failed, and counted it. A front of the last reply was written.
     SinkFault,
+    /// The last message was answered, and the command of the turn behind it has no room: nothing of that was written.
+    Full,
     /// The disk failed, and counted it.
     Disk,
     /// Out of memory.

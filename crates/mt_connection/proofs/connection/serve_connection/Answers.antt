@@ -3,13 +3,14 @@ use Rattle.std.proofs.Common.{◌≡◌, ◌<◌, [], ◌∷◌, ◌++◌, ◌+�
 use Rattle.std.specs.Prelude.{is_some}
 use Rattle.mt_engine.specs.Current.{told_size}
 use Rattle.mt_engine.specs.History.{History}
-use Rattle.mt_connection.specs.Account.{AccountSide, account_side, no_tasks, told_time}
+use Rattle.mt_runner.specs.Account.{AccountSide, account_side, tasks_of, told_time}
 use Rattle.mt_connection.specs.Sides.{side_of}
 use Rattle.mt_connection.specs.Transcript.{Setting, setting}
 use Rattle.mt_connection.specs.declared.end.Step.TheVariants as step
+use Rattle.mt_connection.proofs.Completeness.{some_over}
 use Rattle.mt_connection.proofs.Crashes.{goes_from, goes_on_more, goes_on_none, images_open, moves_more, moves_none, not_later, still_ready}
 use Rattle.mt_connection.proofs.Runs.{closing_more, ran_more, ran_nothing, stepped_here, still_heard, went_on}
-use Rattle.mt_connection.proofs.Serving.{served_closed, served_many, served_over}
+use Rattle.mt_connection.proofs.Serving.{served_by_fault, served_closed, served_many, served_over}
 use Rattle.mt_connection.proofs.Standing.{stand_kept, stand_step}
 use Rattle.mt_connection.proofs.connection.serve_connection.Goals as goal
 
@@ -31,6 +32,10 @@ loop-answered-init g c =
       goes_on = goes_on_none d.seen d.may_leave d.faults c.args.disk.now c.args.engine.now ready;
       ready = ready;
       rule = refl;
+      child = refl;
+      login = refl;
+      slots = refl;
+      at_work = c.requires.at_work;
     }
 
 pub loop-answered-preserved : goal.loop-answered-preserved
@@ -49,10 +54,10 @@ loop-answered-preserved g c =
           let so_far = before.so_far base h over in
           let m : History = so_far.1 in
           let next = c.in-Went.ensures.step base m (so_far.6.over before.ready.is_open) in
-          let s : Setting = setting (is_some (g.L.Source.left c.args.link.now)) knows (g.C.Clock.gives (g.C.Clock.rule c.args.clock.now)) c.args.login.now c.args.engine.now.log.limit base in
-          let x : AccountSide = account_side m (told_size (d.seen disk) c.loop-answered.engine) (d.faults disk) (d.moment disk) (g.C.Clock.asked c.loop-answered.clock) no_tasks in
-          let x' : AccountSide = account_side next.0 (told_size (d.seen new) c.exchange.new.engine) (d.faults new) (d.moment new) (g.C.Clock.asked c.exchange.new.clock) no_tasks in
-          let here = stepped_here g.C.Clock.gives c.args.login.now base (d.left_since new) (d.may_leave new) _ _ knows (is_some (d.seen disk)) _ _ _ _ (still_heard _ _ _ so_far.2.source) told before.rule (before.goes_on.stays.limit before.ready.is_open)
+          let s : Setting = setting (is_some (g.L.Source.left c.args.link.now)) knows (g.C.Clock.gives (g.C.Clock.rule c.args.clock.now)) (g.P.Spawner.gives (g.P.Spawner.rule c.args.spawner.now)) c.args.login.now c.args.runner.now.slots c.args.engine.now.log.limit base in
+          let x : AccountSide = account_side m (told_size (d.seen disk) c.loop-answered.engine) (d.faults disk) (d.moment disk) (g.C.Clock.asked c.loop-answered.clock) (tasks_of (g.P.Spawner.seen c.loop-answered.spawner)) in
+          let x' : AccountSide = account_side next.0 (told_size (d.seen new) c.exchange.new.engine) (d.faults new) (d.moment new) (g.C.Clock.asked c.exchange.new.clock) (tasks_of (g.P.Spawner.seen c.exchange.new.spawner)) in
+          let here = stepped_here g.C.Clock.gives g.P.Spawner.gives c.args.login.now base (d.left_since new) (d.may_leave new) _ _ knows (is_some (d.seen disk)) _ _ _ _ _ _ _ _ (still_heard _ _ _ so_far.2.source) told before.rule before.child before.slots (before.goes_on.stays.limit before.ready.is_open)
           (side c.loop-answered.link) x (step.Went c.in-Went.last) (side c.exchange.new.link) x' next.1 in
           let moves = moves_more d.seen d.moment d.left_since old disk new c.loop-answered.engine c.exchange.new.engine base h m next.0 told so_far.6 next.2 in (
             so_far.0 ++ here.0 ∷ [],
@@ -66,7 +71,11 @@ loop-answered-preserved g c =
       stays = g.L.Both.joined _ _ _ before.stays c.in-Went.ensures.stays;
       goes_on = goes_on_more d.seen d.may_leave d.faults c.args.disk.now c.loop-answered.disk c.exchange.new.disk c.args.engine.now c.loop-answered.engine c.exchange.new.engine before.ready.is_open before.goes_on c.in-Went.ensures.goes_on;
       ready = still_ready d.seen d.may_leave d.faults c.loop-answered.disk c.exchange.new.disk c.loop-answered.engine c.exchange.new.engine before.ready c.in-Went.ensures.goes_on is_open;
-      rule = c.in-Went.ensures.rule ∙ before.rule;
+      rule = c.in-Went.ensures.rule.0 ∙ before.rule;
+      child = c.in-Went.ensures.rule.1 ∙ before.child;
+      login = c.in-Went.ensures.same.0 ∙ before.login;
+      slots = c.in-Went.ensures.same.1 ∙ before.slots;
+      at_work = c.in-Went.ensures.at_work;
     }
 
 pub returns-then-last-clause-served : goal.returns-then-last-clause-served
@@ -82,10 +91,10 @@ returns-then-last-clause-served g c base h over =
     let so_far = before.so_far base h over in
     let m : History = so_far.1 in
     let next = c.in-Went.ensures.step base m (so_far.6.over before.ready.is_open) in
-    let s : Setting = setting (is_some (g.L.Source.left c.args.link.now)) knows (g.C.Clock.gives (g.C.Clock.rule c.args.clock.now)) c.args.login.now c.args.engine.now.log.limit base in
-    let x : AccountSide = account_side m (told_size (d.seen disk) c.loop-answered.engine) (d.faults disk) (d.moment disk) (g.C.Clock.asked c.loop-answered.clock) no_tasks in
-    let x' : AccountSide = account_side next.0 (told_size (d.seen new) c.exchange.new.engine) (d.faults new) (d.moment new) (g.C.Clock.asked c.exchange.new.clock) no_tasks in
-    let here = stepped_here g.C.Clock.gives c.args.login.now base (d.left_since new) (d.may_leave new) _ _ knows (is_some (d.seen disk)) _ _ _ _ (still_heard _ _ _ so_far.2.source) told before.rule (before.goes_on.stays.limit before.ready.is_open)
+    let s : Setting = setting (is_some (g.L.Source.left c.args.link.now)) knows (g.C.Clock.gives (g.C.Clock.rule c.args.clock.now)) (g.P.Spawner.gives (g.P.Spawner.rule c.args.spawner.now)) c.args.login.now c.args.runner.now.slots c.args.engine.now.log.limit base in
+    let x : AccountSide = account_side m (told_size (d.seen disk) c.loop-answered.engine) (d.faults disk) (d.moment disk) (g.C.Clock.asked c.loop-answered.clock) (tasks_of (g.P.Spawner.seen c.loop-answered.spawner)) in
+    let x' : AccountSide = account_side next.0 (told_size (d.seen new) c.exchange.new.engine) (d.faults new) (d.moment new) (g.C.Clock.asked c.exchange.new.clock) (tasks_of (g.P.Spawner.seen c.exchange.new.spawner)) in
+    let here = stepped_here g.C.Clock.gives g.P.Spawner.gives c.args.login.now base (d.left_since new) (d.may_leave new) _ _ knows (is_some (d.seen disk)) _ _ _ _ _ _ _ _ (still_heard _ _ _ so_far.2.source) told before.rule before.child before.slots (before.goes_on.stays.limit before.ready.is_open)
     (side c.loop-answered.link) x (step.Went c.in-Went.last) (side c.exchange.new.link) x' next.1 in
     let moves = moves_more d.seen d.moment d.left_since old disk new c.loop-answered.engine c.exchange.new.engine base h m next.0 told so_far.6 next.2 in
     let is_open = c.in-Went.ensures.live (went_on _ _) (went_on _ _) in
@@ -116,10 +125,10 @@ returns-in-Over-clause-served g c base h over =
     let so_far = before.so_far base h over in
     let m : History = so_far.1 in
     let next = c.in-Over.ensures.step base m (so_far.6.over before.ready.is_open) in
-    let s : Setting = setting (is_some (g.L.Source.left c.args.link.now)) knows (g.C.Clock.gives (g.C.Clock.rule c.args.clock.now)) c.args.login.now c.args.engine.now.log.limit base in
-    let x : AccountSide = account_side m (told_size (d.seen disk) c.loop-answered.engine) (d.faults disk) (d.moment disk) (g.C.Clock.asked c.loop-answered.clock) no_tasks in
-    let x' : AccountSide = account_side next.0 (told_size (d.seen new) c.exchange.new.engine) (d.faults new) (d.moment new) (g.C.Clock.asked c.exchange.new.clock) no_tasks in
-    let here = stepped_here g.C.Clock.gives c.args.login.now base (d.left_since new) (d.may_leave new) _ _ knows (is_some (d.seen disk)) _ _ _ _ (still_heard _ _ _ so_far.2.source) told before.rule (before.goes_on.stays.limit before.ready.is_open)
+    let s : Setting = setting (is_some (g.L.Source.left c.args.link.now)) knows (g.C.Clock.gives (g.C.Clock.rule c.args.clock.now)) (g.P.Spawner.gives (g.P.Spawner.rule c.args.spawner.now)) c.args.login.now c.args.runner.now.slots c.args.engine.now.log.limit base in
+    let x : AccountSide = account_side m (told_size (d.seen disk) c.loop-answered.engine) (d.faults disk) (d.moment disk) (g.C.Clock.asked c.loop-answered.clock) (tasks_of (g.P.Spawner.seen c.loop-answered.spawner)) in
+    let x' : AccountSide = account_side next.0 (told_size (d.seen new) c.exchange.new.engine) (d.faults new) (d.moment new) (g.C.Clock.asked c.exchange.new.clock) (tasks_of (g.P.Spawner.seen c.exchange.new.spawner)) in
+    let here = stepped_here g.C.Clock.gives g.P.Spawner.gives c.args.login.now base (d.left_since new) (d.may_leave new) _ _ knows (is_some (d.seen disk)) _ _ _ _ _ _ _ _ (still_heard _ _ _ so_far.2.source) told before.rule before.child before.slots (before.goes_on.stays.limit before.ready.is_open)
     (side c.loop-answered.link) x (step.Over c.in-Over.end) (side c.exchange.new.link) x' next.1 in
     let moves = moves_more d.seen d.moment d.left_since old disk new c.loop-answered.engine c.exchange.new.engine base h m next.0 told so_far.6 next.2 in (
       next.0,
@@ -128,6 +137,12 @@ returns-in-Over-clause-served g c base h over =
       here.2,
       moves,
     )
+
+-- the end is that over any history that the disk stands for, of which there is one
+pub returns-in-Over-clause-complete : goal.returns-in-Over-clause-complete
+returns-in-Over-clause-complete g c =
+    let o = some_over (g.D.Disk.seen c.args.disk.now) c.args.engine.now c.requires.ready.is_open c.requires.ready.serves in
+    served_by_fault _ _ _ _ c.in-Over.end _ (returns-in-Over-clause-served g c o.0 o.1 o.2).1
 
 pub returns-in-Over-clause-goes_on : goal.returns-in-Over-clause-goes_on
 returns-in-Over-clause-goes_on g c =

@@ -13,106 +13,106 @@ use Rattle.mt_http.specs.Framing.{limit_of}
 use Rattle.mt_http.specs.Options.{interim}
 use Rattle.mt_http.specs.declared.message.Ending.TheVariants as ending
 use Rattle.mt_model.specs.State.{State}
-use Rattle.mt_connection.specs.Account.{AccountSide, account_side, no_tasks, told_time}
+use Rattle.mt_runner.specs.Account.{AccountSide, account_side, told_time}
 use Rattle.mt_connection.specs.Sides.{LinkSide, side_of}
-use Rattle.mt_connection.specs.Steps.{Receives}
-use Rattle.mt_connection.specs.Transcript.{HoldsSince, Setting, setting}
+use Rattle.mt_connection.specs.Steps.{Receives, plain}
+use Rattle.mt_connection.specs.Transcript.{HoldsSince, Setting}
 use Rattle.mt_connection.specs.declared.receive.Received.TheVariants as received
 use Rattle.mt_connection.proofs.Conversing.{AnswersAt, disk_failed, ends_so, fault_not_disk, fault_not_memory, led_to, no_memory, not_disk, not_memory, unfinished, unfinished_not_disk, unfinished_not_memory, unread}
 use Rattle.mt_connection.proofs.Crashes.{all_of, at_told, goes_on_none, holds_now, holds_read, images_open, left_now, moves_none, nearly_between, only_between, only_read, still_stands, told_later}
 use Rattle.mt_connection.proofs.Exchanging.{answered_in, bad_in, count_is, counts_on, cut_at, disk_in, ended_at, large_in, memory_at, memory_in, refused_at, truncated_at, truncated_in, unread_at, unread_in}
 use Rattle.mt_connection.proofs.Reading.{none_after}
 use Rattle.mt_connection.proofs.Sending.{sends_on}
-use Rattle.mt_connection.proofs.answering.exchange.Goals as goal
+use Rattle.mt_connection.proofs.answering.answer_message.Goals as goal
 
 pub returns-in-SinkFault-clause-goes_on : goal.returns-in-SinkFault-clause-goes_on
 returns-in-SinkFault-clause-goes_on g c = let d = g.D.Disk in goes_on_none d.seen d.may_leave d.faults c.args.disk.now c.args.engine.now c.requires.ready
 
-pub returns-in-SinkFault-clause-step : goal.returns-in-SinkFault-clause-step
-returns-in-SinkFault-clause-step g c base h over =
+pub returns-in-SinkFault-clause-takes : goal.returns-in-SinkFault-clause-takes
+returns-in-SinkFault-clause-takes g c slots tasks base h over =
     let d = g.D.Disk in
     let side = side_of g.L.Source.left g.L.Sink.got g.L.Source.read_faults g.L.Sink.write_faults in
     let disk = c.args.disk.now in
     let engine = c.args.engine.now in
     let knows = is_some (d.seen disk) in
     let moments = g.C.Clock.gives (g.C.Clock.rule c.args.clock.now) in
-    let s : Setting = setting (is_some (g.L.Source.left c.args.link.now)) knows moments c.args.login.now engine.log.limit base in
-    let x : AccountSide = account_side h (told_size (d.seen disk) engine) (d.faults disk) (told_time knows (d.moment disk)) (g.C.Clock.asked c.args.clock.now) no_tasks in
+    let s : Setting = plain (is_some (g.L.Source.left c.args.link.now)) knows moments c.args.login.now slots engine.log.limit base in
+    let x : AccountSide = account_side h (told_size (d.seen disk) engine) (d.faults disk) (told_time knows (d.moment disk)) (g.C.Clock.asked c.args.clock.now) tasks in
     (h, cut_at s (d.left_since disk) (d.may_leave disk) x (side c.args.link.now) (side c.receive.new.link) (λ is x image. images_open d.seen d.may_leave disk engine base h c.requires.ready.stands c.requires.ready.is_open over is x image) c.in-SinkFault.ensures.receives, moves_none d.seen d.may_leave d.moment d.left_since disk engine base h (g.met.D.Disk.only_now disk) c.requires.ready.stands c.requires.ready.is_open over)
 
 pub returns-in-Nothing-End-clause-goes_on : goal.returns-in-Nothing-End-clause-goes_on
 returns-in-Nothing-End-clause-goes_on g c = let d = g.D.Disk in goes_on_none d.seen d.may_leave d.faults c.args.disk.now c.args.engine.now c.requires.ready
 
-pub returns-in-Nothing-End-clause-step : goal.returns-in-Nothing-End-clause-step
-returns-in-Nothing-End-clause-step g c base h over =
+pub returns-in-Nothing-End-clause-takes : goal.returns-in-Nothing-End-clause-takes
+returns-in-Nothing-End-clause-takes g c slots tasks base h over =
     let d = g.D.Disk in
     let side = side_of g.L.Source.left g.L.Sink.got g.L.Source.read_faults g.L.Sink.write_faults in
     let disk = c.args.disk.now in
     let engine = c.args.engine.now in
     let knows = is_some (d.seen disk) in
     let moments = g.C.Clock.gives (g.C.Clock.rule c.args.clock.now) in
-    let s : Setting = setting (is_some (g.L.Source.left c.args.link.now)) knows moments c.args.login.now engine.log.limit base in
-    let x : AccountSide = account_side h (told_size (d.seen disk) engine) (d.faults disk) (told_time knows (d.moment disk)) (g.C.Clock.asked c.args.clock.now) no_tasks in
+    let s : Setting = plain (is_some (g.L.Source.left c.args.link.now)) knows moments c.args.login.now slots engine.log.limit base in
+    let x : AccountSide = account_side h (told_size (d.seen disk) engine) (d.faults disk) (told_time knows (d.moment disk)) (g.C.Clock.asked c.args.clock.now) tasks in
     (h, ended_at s (d.left_since disk) (d.may_leave disk) x (side c.args.link.now) (side c.receive.new.link) (λ is x image. images_open d.seen d.may_leave disk engine base h c.requires.ready.stands c.requires.ready.is_open over is x image) (rw c.in-Nothing-End.field-0-is at c.in-Nothing-End.ensures).receives, moves_none d.seen d.may_leave d.moment d.left_since disk engine base h (g.met.D.Disk.only_now disk) c.requires.ready.stands c.requires.ready.is_open over)
 
 pub returns-in-Nothing-Truncated-clause-goes_on : goal.returns-in-Nothing-Truncated-clause-goes_on
 returns-in-Nothing-Truncated-clause-goes_on g c = let d = g.D.Disk in goes_on_none d.seen d.may_leave d.faults c.args.disk.now c.args.engine.now c.requires.ready
 
-pub returns-in-Nothing-Truncated-clause-step : goal.returns-in-Nothing-Truncated-clause-step
-returns-in-Nothing-Truncated-clause-step g c base h over =
+pub returns-in-Nothing-Truncated-clause-takes : goal.returns-in-Nothing-Truncated-clause-takes
+returns-in-Nothing-Truncated-clause-takes g c slots tasks base h over =
     let d = g.D.Disk in
     let side = side_of g.L.Source.left g.L.Sink.got g.L.Source.read_faults g.L.Sink.write_faults in
     let disk = c.args.disk.now in
     let engine = c.args.engine.now in
     let knows = is_some (d.seen disk) in
     let moments = g.C.Clock.gives (g.C.Clock.rule c.args.clock.now) in
-    let s : Setting = setting (is_some (g.L.Source.left c.args.link.now)) knows moments c.args.login.now engine.log.limit base in
-    let x : AccountSide = account_side h (told_size (d.seen disk) engine) (d.faults disk) (told_time knows (d.moment disk)) (g.C.Clock.asked c.args.clock.now) no_tasks in
+    let s : Setting = plain (is_some (g.L.Source.left c.args.link.now)) knows moments c.args.login.now slots engine.log.limit base in
+    let x : AccountSide = account_side h (told_size (d.seen disk) engine) (d.faults disk) (told_time knows (d.moment disk)) (g.C.Clock.asked c.args.clock.now) tasks in
     (h, truncated_at s (d.left_since disk) (d.may_leave disk) x (side c.args.link.now) (side c.receive.new.link) (λ is x image. images_open d.seen d.may_leave disk engine base h c.requires.ready.stands c.requires.ready.is_open over is x image) (rw c.in-Nothing-Truncated.field-0-is at c.in-Nothing-Truncated.ensures).receives, moves_none d.seen d.may_leave d.moment d.left_since disk engine base h (g.met.D.Disk.only_now disk) c.requires.ready.stands c.requires.ready.is_open over)
 
 pub returns-in-Nothing-SourceFault-clause-goes_on : goal.returns-in-Nothing-SourceFault-clause-goes_on
 returns-in-Nothing-SourceFault-clause-goes_on g c = let d = g.D.Disk in goes_on_none d.seen d.may_leave d.faults c.args.disk.now c.args.engine.now c.requires.ready
 
-pub returns-in-Nothing-SourceFault-clause-step : goal.returns-in-Nothing-SourceFault-clause-step
-returns-in-Nothing-SourceFault-clause-step g c base h over =
+pub returns-in-Nothing-SourceFault-clause-takes : goal.returns-in-Nothing-SourceFault-clause-takes
+returns-in-Nothing-SourceFault-clause-takes g c slots tasks base h over =
     let d = g.D.Disk in
     let side = side_of g.L.Source.left g.L.Sink.got g.L.Source.read_faults g.L.Sink.write_faults in
     let disk = c.args.disk.now in
     let engine = c.args.engine.now in
     let knows = is_some (d.seen disk) in
     let moments = g.C.Clock.gives (g.C.Clock.rule c.args.clock.now) in
-    let s : Setting = setting (is_some (g.L.Source.left c.args.link.now)) knows moments c.args.login.now engine.log.limit base in
-    let x : AccountSide = account_side h (told_size (d.seen disk) engine) (d.faults disk) (told_time knows (d.moment disk)) (g.C.Clock.asked c.args.clock.now) no_tasks in
+    let s : Setting = plain (is_some (g.L.Source.left c.args.link.now)) knows moments c.args.login.now slots engine.log.limit base in
+    let x : AccountSide = account_side h (told_size (d.seen disk) engine) (d.faults disk) (told_time knows (d.moment disk)) (g.C.Clock.asked c.args.clock.now) tasks in
     (h, unread_at s (d.left_since disk) (d.may_leave disk) x (side c.args.link.now) (side c.receive.new.link) (λ is x image. images_open d.seen d.may_leave disk engine base h c.requires.ready.stands c.requires.ready.is_open over is x image) (rw c.in-Nothing-SourceFault.field-0-is at c.in-Nothing-SourceFault.ensures).receives, moves_none d.seen d.may_leave d.moment d.left_since disk engine base h (g.met.D.Disk.only_now disk) c.requires.ready.stands c.requires.ready.is_open over)
 
 pub returns-in-Nothing-Memory-clause-goes_on : goal.returns-in-Nothing-Memory-clause-goes_on
 returns-in-Nothing-Memory-clause-goes_on g c = let d = g.D.Disk in goes_on_none d.seen d.may_leave d.faults c.args.disk.now c.args.engine.now c.requires.ready
 
-pub returns-in-Nothing-Memory-clause-step : goal.returns-in-Nothing-Memory-clause-step
-returns-in-Nothing-Memory-clause-step g c base h over =
+pub returns-in-Nothing-Memory-clause-takes : goal.returns-in-Nothing-Memory-clause-takes
+returns-in-Nothing-Memory-clause-takes g c slots tasks base h over =
     let d = g.D.Disk in
     let side = side_of g.L.Source.left g.L.Sink.got g.L.Source.read_faults g.L.Sink.write_faults in
     let disk = c.args.disk.now in
     let engine = c.args.engine.now in
     let knows = is_some (d.seen disk) in
     let moments = g.C.Clock.gives (g.C.Clock.rule c.args.clock.now) in
-    let s : Setting = setting (is_some (g.L.Source.left c.args.link.now)) knows moments c.args.login.now engine.log.limit base in
-    let x : AccountSide = account_side h (told_size (d.seen disk) engine) (d.faults disk) (told_time knows (d.moment disk)) (g.C.Clock.asked c.args.clock.now) no_tasks in
+    let s : Setting = plain (is_some (g.L.Source.left c.args.link.now)) knows moments c.args.login.now slots engine.log.limit base in
+    let x : AccountSide = account_side h (told_size (d.seen disk) engine) (d.faults disk) (told_time knows (d.moment disk)) (g.C.Clock.asked c.args.clock.now) tasks in
     (h, memory_at s (d.left_since disk) (d.may_leave disk) x (side c.args.link.now) (side c.receive.new.link) (λ is x image. images_open d.seen d.may_leave disk engine base h c.requires.ready.stands c.requires.ready.is_open over is x image) (rw c.in-Nothing-Memory.field-0-is at c.in-Nothing-Memory.ensures).receives, moves_none d.seen d.may_leave d.moment d.left_since disk engine base h (g.met.D.Disk.only_now disk) c.requires.ready.stands c.requires.ready.is_open over)
 
 pub returns-in-Nothing-Bad-clause-goes_on : goal.returns-in-Nothing-Bad-clause-goes_on
 returns-in-Nothing-Bad-clause-goes_on g c = let d = g.D.Disk in goes_on_none d.seen d.may_leave d.faults c.args.disk.now c.args.engine.now c.requires.ready
 
-pub returns-in-Nothing-Bad-clause-step : goal.returns-in-Nothing-Bad-clause-step
-returns-in-Nothing-Bad-clause-step g c base h over =
+pub returns-in-Nothing-Bad-clause-takes : goal.returns-in-Nothing-Bad-clause-takes
+returns-in-Nothing-Bad-clause-takes g c slots tasks base h over =
     let d = g.D.Disk in
     let side = side_of g.L.Source.left g.L.Sink.got g.L.Source.read_faults g.L.Sink.write_faults in
     let disk = c.args.disk.now in
     let engine = c.args.engine.now in
     let knows = is_some (d.seen disk) in
     let moments = g.C.Clock.gives (g.C.Clock.rule c.args.clock.now) in
-    let s : Setting = setting (is_some (g.L.Source.left c.args.link.now)) knows moments c.args.login.now engine.log.limit base in
-    let x : AccountSide = account_side h (told_size (d.seen disk) engine) (d.faults disk) (told_time knows (d.moment disk)) (g.C.Clock.asked c.args.clock.now) no_tasks in
+    let s : Setting = plain (is_some (g.L.Source.left c.args.link.now)) knows moments c.args.login.now slots engine.log.limit base in
+    let x : AccountSide = account_side h (told_size (d.seen disk) engine) (d.faults disk) (told_time knows (d.moment disk)) (g.C.Clock.asked c.args.clock.now) tasks in
     let out = g.met.L.Both.write_keeps _ _ c.refuse.ensures.stays in
     let stands : knows ≡ true → HoldsSince (d.left_since disk) x.time base h = λ is. at_told (λ t. HoldsSince (d.left_since disk) t base h) knows (d.moment disk) is (holds_now d.seen d.may_leave d.moment d.left_since disk engine base h (g.met.D.Disk.only_now disk) c.requires.ready.stands c.requires.ready.is_open over is) in (
       h,
@@ -121,16 +121,16 @@ returns-in-Nothing-Bad-clause-step g c base h over =
       moves_none d.seen d.may_leave d.moment d.left_since disk engine base h (g.met.D.Disk.only_now disk) c.requires.ready.stands c.requires.ready.is_open over,
     )
 
-pub returns-in-Replied-clause-step : goal.returns-in-Replied-clause-step
-returns-in-Replied-clause-step g c base h over =
+pub returns-in-Replied-clause-takes : goal.returns-in-Replied-clause-takes
+returns-in-Replied-clause-takes g c slots tasks base h over =
     let d = g.D.Disk in
     let side = side_of g.L.Source.left g.L.Sink.got g.L.Source.read_faults g.L.Sink.write_faults in
     let disk = c.args.disk.now in
     let engine = c.args.engine.now in
     let knows = is_some (d.seen disk) in
     let moments = g.C.Clock.gives (g.C.Clock.rule c.args.clock.now) in
-    let s : Setting = setting (is_some (g.L.Source.left c.args.link.now)) knows moments c.args.login.now engine.log.limit base in
-    let x : AccountSide = account_side h (told_size (d.seen disk) engine) (d.faults disk) (told_time knows (d.moment disk)) (g.C.Clock.asked c.args.clock.now) no_tasks in
+    let s : Setting = plain (is_some (g.L.Source.left c.args.link.now)) knows moments c.args.login.now slots engine.log.limit base in
+    let x : AccountSide = account_side h (told_size (d.seen disk) engine) (d.faults disk) (told_time knows (d.moment disk)) (g.C.Clock.asked c.args.clock.now) tasks in
     let disk' = c.answer.new.disk in
     let engine' = c.answer.new.engine in
     let before : LinkSide = side c.args.link.now in
@@ -151,7 +151,7 @@ returns-in-Replied-clause-step g c base h over =
     let told = c.in-Replied.ensures.goes_on.stays.told is_open in
     let stands = c.answer.ensures.goes_on.stands in
     let only_now = g.met.D.Disk.only_now disk' in
-    let a = answered_in moments c.args.login.now base h (d.left_since new) (d.may_leave new) (d.seen disk) (d.seen disk') (d.seen new) engine engine' x (account_side h 0 (d.faults new) (told_time knows (d.moment new)) (g.C.Clock.asked c.now-moment.new.self) no_tasks) (d.faults disk') (told_time knows (d.moment disk'))
+    let a = answered_in slots moments c.args.login.now base h (d.left_since new) (d.may_leave new) (d.seen disk) (d.seen disk') (d.seen new) engine engine' x (account_side h 0 (d.faults new) (told_time knows (d.moment new)) (g.C.Clock.asked c.now-moment.new.self) tasks) (d.faults disk') (told_time knows (d.moment disk'))
     before at mid (side c.respond.new.sink) c.in-Head.head read keeps.0 keeps.1 c.answer.ensures.body.reads c.answer.ensures.goes_on.stays.faults
     c.now-moment.ensures.asked refl later (told_later knows (d.moment disk') (d.moment new) (λ is. c.respond.ensures.read.time.later)) out.0 out.1 c.respond.ensures.read.seen_same c.now-moment.result c.in-Replied.reply c.respond.result c.now-moment.ensures.given told hears (λ none. none_after _ _ _ _ c.answer.ensures.body.after none)
     M answers over sends.0 sends.1 sends.2
@@ -182,16 +182,16 @@ returns-in-Replied-clause-goes_on g c =
       serves = subst (λ (o : Option Files). Serves o c.answer.new.engine) (sym read.seen_same) before.serves;
     }
 
-pub returns-in-Unfinished-Truncated-clause-step : goal.returns-in-Unfinished-Truncated-clause-step
-returns-in-Unfinished-Truncated-clause-step g c base h over =
+pub returns-in-Unfinished-Truncated-clause-takes : goal.returns-in-Unfinished-Truncated-clause-takes
+returns-in-Unfinished-Truncated-clause-takes g c slots tasks base h over =
     let d = g.D.Disk in
     let side = side_of g.L.Source.left g.L.Sink.got g.L.Source.read_faults g.L.Sink.write_faults in
     let disk = c.args.disk.now in
     let engine = c.args.engine.now in
     let knows = is_some (d.seen disk) in
     let moments = g.C.Clock.gives (g.C.Clock.rule c.args.clock.now) in
-    let s : Setting = setting (is_some (g.L.Source.left c.args.link.now)) knows moments c.args.login.now engine.log.limit base in
-    let x : AccountSide = account_side h (told_size (d.seen disk) engine) (d.faults disk) (told_time knows (d.moment disk)) (g.C.Clock.asked c.args.clock.now) no_tasks in
+    let s : Setting = plain (is_some (g.L.Source.left c.args.link.now)) knows moments c.args.login.now slots engine.log.limit base in
+    let x : AccountSide = account_side h (told_size (d.seen disk) engine) (d.faults disk) (told_time knows (d.moment disk)) (g.C.Clock.asked c.args.clock.now) tasks in
     let disk' = c.answer.new.disk in
     let engine' = c.answer.new.engine in
     let before : LinkSide = side c.args.link.now in
@@ -206,26 +206,26 @@ returns-in-Unfinished-Truncated-clause-step g c base h over =
     let hears = subst (λ (f : BodyState). IfSome (said f at.left) (λ t. Hears (answered.Unfinished ending.Truncated) t mid.left)) framer (rw c.in-Unfinished-Truncated.field-0-is at c.in-Unfinished-Truncated.ensures.hears) in
     let is_open = c.in-Unfinished-Truncated.ensures.live (unfinished_not_disk _) (unfinished_not_memory _) in
     let told = c.in-Unfinished-Truncated.ensures.goes_on.stays.told is_open in
-    let x' : AccountSide = account_side h (told_size (d.seen disk') engine') (d.faults disk') (told_time knows (d.moment disk')) (g.C.Clock.asked c.now-moment.new.self) no_tasks in
-    let u = unfinished moments c.args.login.now base h before at c.in-Head.head read.0 engine engine' c.now-moment.result mid x x' M (d.seen disk) (d.seen disk') ending.Truncated told answers over in
+    let x' : AccountSide = account_side h (told_size (d.seen disk') engine') (d.faults disk') (told_time knows (d.moment disk')) (g.C.Clock.asked c.now-moment.new.self) tasks in
+    let u = unfinished slots moments c.args.login.now base h before at c.in-Head.head read.0 engine engine' c.now-moment.result mid x x' M (d.seen disk) (d.seen disk') ending.Truncated told answers over in
     let same : c.link-1.given.0 ≡ c.answer.new.body.source.now = search rules in
     rw same (
       h,
-      truncated_in s (d.left_since disk') (d.may_leave disk') x x' before at mid c.in-Head.head read keeps.0 keeps.1 c.answer.ensures.body.reads (counts_on h h (told_size (d.seen disk) engine) (told_size (d.seen disk') engine') (d.faults disk) (d.faults disk') x.time (told_time knows (d.moment disk')) x.asked (g.C.Clock.asked c.now-moment.new.self) c.answer.ensures.goes_on.stays.faults later c.now-moment.ensures.asked) refl
+      truncated_in s (d.left_since disk') (d.may_leave disk') x x' before at mid c.in-Head.head read keeps.0 keeps.1 c.answer.ensures.body.reads (counts_on tasks h h (told_size (d.seen disk) engine) (told_size (d.seen disk') engine') (d.faults disk) (d.faults disk') x.time (told_time knows (d.moment disk')) x.asked (g.C.Clock.asked c.now-moment.new.self) c.answer.ensures.goes_on.stays.faults later c.now-moment.ensures.asked) refl
           (λ is y image. images_open d.seen d.may_leave disk' engine' base h c.answer.ensures.goes_on.stands is_open u.1 (told ∙ is) y image) (ends_so _ ending.Truncated mid.left hears) u.0,
       record { over = λ is_open. u.1; front = all_of h; any_moment = u.2 },
     )
 
-pub returns-in-Unfinished-Bad-clause-step : goal.returns-in-Unfinished-Bad-clause-step
-returns-in-Unfinished-Bad-clause-step g c base h over =
+pub returns-in-Unfinished-Bad-clause-takes : goal.returns-in-Unfinished-Bad-clause-takes
+returns-in-Unfinished-Bad-clause-takes g c slots tasks base h over =
     let d = g.D.Disk in
     let side = side_of g.L.Source.left g.L.Sink.got g.L.Source.read_faults g.L.Sink.write_faults in
     let disk = c.args.disk.now in
     let engine = c.args.engine.now in
     let knows = is_some (d.seen disk) in
     let moments = g.C.Clock.gives (g.C.Clock.rule c.args.clock.now) in
-    let s : Setting = setting (is_some (g.L.Source.left c.args.link.now)) knows moments c.args.login.now engine.log.limit base in
-    let x : AccountSide = account_side h (told_size (d.seen disk) engine) (d.faults disk) (told_time knows (d.moment disk)) (g.C.Clock.asked c.args.clock.now) no_tasks in
+    let s : Setting = plain (is_some (g.L.Source.left c.args.link.now)) knows moments c.args.login.now slots engine.log.limit base in
+    let x : AccountSide = account_side h (told_size (d.seen disk) engine) (d.faults disk) (told_time knows (d.moment disk)) (g.C.Clock.asked c.args.clock.now) tasks in
     let disk' = c.answer.new.disk in
     let engine' = c.answer.new.engine in
     let before : LinkSide = side c.args.link.now in
@@ -244,10 +244,10 @@ returns-in-Unfinished-Bad-clause-step g c base h over =
     let is_open = c.in-Unfinished-Bad.ensures.live (unfinished_not_disk _) (unfinished_not_memory _) in
     let told = c.in-Unfinished-Bad.ensures.goes_on.stays.told is_open in
     let stands = c.answer.ensures.goes_on.stands in
-    let x' : AccountSide = account_side h (told_size (d.seen disk') engine') (d.faults disk') (told_time knows (d.moment disk')) (g.C.Clock.asked c.now-moment.new.self) no_tasks in
-    let u = unfinished moments c.args.login.now base h before at c.in-Head.head read.0 engine engine' c.now-moment.result (record new { left = mid.left }) x x' M (d.seen disk) (d.seen disk') ending.Bad told answers over in (
+    let x' : AccountSide = account_side h (told_size (d.seen disk') engine') (d.faults disk') (told_time knows (d.moment disk')) (g.C.Clock.asked c.now-moment.new.self) tasks in
+    let u = unfinished slots moments c.args.login.now base h before at c.in-Head.head read.0 engine engine' c.now-moment.result (record new { left = mid.left }) x x' M (d.seen disk) (d.seen disk') ending.Bad told answers over in (
       h,
-      bad_in s (d.left_since disk') (d.may_leave disk') x x' before at mid c.in-Head.head read keeps.0 keeps.1 c.answer.ensures.body.reads (counts_on h h (told_size (d.seen disk) engine) (told_size (d.seen disk') engine') (d.faults disk) (d.faults disk') x.time (told_time knows (d.moment disk')) x.asked (g.C.Clock.asked c.now-moment.new.self) c.answer.ensures.goes_on.stays.faults later c.now-moment.ensures.asked) refl
+      bad_in s (d.left_since disk') (d.may_leave disk') x x' before at mid c.in-Head.head read keeps.0 keeps.1 c.answer.ensures.body.reads (counts_on tasks h h (told_size (d.seen disk) engine) (told_size (d.seen disk') engine') (d.faults disk) (d.faults disk') x.time (told_time knows (d.moment disk')) x.asked (g.C.Clock.asked c.now-moment.new.self) c.answer.ensures.goes_on.stays.faults later c.now-moment.ensures.asked) refl
           (λ is y image. images_open d.seen d.may_leave disk' engine' base h stands is_open u.1 (told ∙ is) y image) new (let faults = out.1 in omega (arith, faults)) c.now-moment.ensures.asked refl engine'.state.count c.now-moment.result
           (λ is. count_is (d.seen disk') engine' base h u.1 (told ∙ is)) c.now-moment.ensures.given u.0
           (λ is. at_told (λ t. HoldsSince (d.left_since disk') t base h) knows (d.moment disk') is (holds_now d.seen d.may_leave d.moment d.left_since disk' engine' base h (g.met.D.Disk.only_now disk') stands is_open u.1 (told ∙ is)))
@@ -255,16 +255,16 @@ returns-in-Unfinished-Bad-clause-step g c base h over =
       record { over = λ is_open. u.1; front = all_of h; any_moment = u.2 },
     )
 
-pub returns-in-Unfinished-TooLarge-clause-step : goal.returns-in-Unfinished-TooLarge-clause-step
-returns-in-Unfinished-TooLarge-clause-step g c base h over =
+pub returns-in-Unfinished-TooLarge-clause-takes : goal.returns-in-Unfinished-TooLarge-clause-takes
+returns-in-Unfinished-TooLarge-clause-takes g c slots tasks base h over =
     let d = g.D.Disk in
     let side = side_of g.L.Source.left g.L.Sink.got g.L.Source.read_faults g.L.Sink.write_faults in
     let disk = c.args.disk.now in
     let engine = c.args.engine.now in
     let knows = is_some (d.seen disk) in
     let moments = g.C.Clock.gives (g.C.Clock.rule c.args.clock.now) in
-    let s : Setting = setting (is_some (g.L.Source.left c.args.link.now)) knows moments c.args.login.now engine.log.limit base in
-    let x : AccountSide = account_side h (told_size (d.seen disk) engine) (d.faults disk) (told_time knows (d.moment disk)) (g.C.Clock.asked c.args.clock.now) no_tasks in
+    let s : Setting = plain (is_some (g.L.Source.left c.args.link.now)) knows moments c.args.login.now slots engine.log.limit base in
+    let x : AccountSide = account_side h (told_size (d.seen disk) engine) (d.faults disk) (told_time knows (d.moment disk)) (g.C.Clock.asked c.args.clock.now) tasks in
     let disk' = c.answer.new.disk in
     let engine' = c.answer.new.engine in
     let before : LinkSide = side c.args.link.now in
@@ -283,10 +283,10 @@ returns-in-Unfinished-TooLarge-clause-step g c base h over =
     let is_open = c.in-Unfinished-TooLarge.ensures.live (unfinished_not_disk _) (unfinished_not_memory _) in
     let told = c.in-Unfinished-TooLarge.ensures.goes_on.stays.told is_open in
     let stands = c.answer.ensures.goes_on.stands in
-    let x' : AccountSide = account_side h (told_size (d.seen disk') engine') (d.faults disk') (told_time knows (d.moment disk')) (g.C.Clock.asked c.now-moment.new.self) no_tasks in
-    let u = unfinished moments c.args.login.now base h before at c.in-Head.head read.0 engine engine' c.now-moment.result (record new { left = mid.left }) x x' M (d.seen disk) (d.seen disk') ending.TooLarge told answers over in (
+    let x' : AccountSide = account_side h (told_size (d.seen disk') engine') (d.faults disk') (told_time knows (d.moment disk')) (g.C.Clock.asked c.now-moment.new.self) tasks in
+    let u = unfinished slots moments c.args.login.now base h before at c.in-Head.head read.0 engine engine' c.now-moment.result (record new { left = mid.left }) x x' M (d.seen disk) (d.seen disk') ending.TooLarge told answers over in (
       h,
-      large_in s (d.left_since disk') (d.may_leave disk') x x' before at mid c.in-Head.head read keeps.0 keeps.1 c.answer.ensures.body.reads (counts_on h h (told_size (d.seen disk) engine) (told_size (d.seen disk') engine') (d.faults disk) (d.faults disk') x.time (told_time knows (d.moment disk')) x.asked (g.C.Clock.asked c.now-moment.new.self) c.answer.ensures.goes_on.stays.faults later c.now-moment.ensures.asked) refl
+      large_in s (d.left_since disk') (d.may_leave disk') x x' before at mid c.in-Head.head read keeps.0 keeps.1 c.answer.ensures.body.reads (counts_on tasks h h (told_size (d.seen disk) engine) (told_size (d.seen disk') engine') (d.faults disk) (d.faults disk') x.time (told_time knows (d.moment disk')) x.asked (g.C.Clock.asked c.now-moment.new.self) c.answer.ensures.goes_on.stays.faults later c.now-moment.ensures.asked) refl
           (λ is y image. images_open d.seen d.may_leave disk' engine' base h stands is_open u.1 (told ∙ is) y image) new (let faults = out.1 in omega (arith, faults)) c.now-moment.ensures.asked refl engine'.state.count c.now-moment.result
           (λ is. count_is (d.seen disk') engine' base h u.1 (told ∙ is)) c.now-moment.ensures.given u.0
           (λ is. at_told (λ t. HoldsSince (d.left_since disk') t base h) knows (d.moment disk') is (holds_now d.seen d.may_leave d.moment d.left_since disk' engine' base h (g.met.D.Disk.only_now disk') stands is_open u.1 (told ∙ is)))
@@ -294,16 +294,16 @@ returns-in-Unfinished-TooLarge-clause-step g c base h over =
       record { over = λ is_open. u.1; front = all_of h; any_moment = u.2 },
     )
 
-pub returns-in-SourceFault-clause-step : goal.returns-in-SourceFault-clause-step
-returns-in-SourceFault-clause-step g c base h over =
+pub returns-in-SourceFault-clause-takes : goal.returns-in-SourceFault-clause-takes
+returns-in-SourceFault-clause-takes g c slots tasks base h over =
     let d = g.D.Disk in
     let side = side_of g.L.Source.left g.L.Sink.got g.L.Source.read_faults g.L.Sink.write_faults in
     let disk = c.args.disk.now in
     let engine = c.args.engine.now in
     let knows = is_some (d.seen disk) in
     let moments = g.C.Clock.gives (g.C.Clock.rule c.args.clock.now) in
-    let s : Setting = setting (is_some (g.L.Source.left c.args.link.now)) knows moments c.args.login.now engine.log.limit base in
-    let x : AccountSide = account_side h (told_size (d.seen disk) engine) (d.faults disk) (told_time knows (d.moment disk)) (g.C.Clock.asked c.args.clock.now) no_tasks in
+    let s : Setting = plain (is_some (g.L.Source.left c.args.link.now)) knows moments c.args.login.now slots engine.log.limit base in
+    let x : AccountSide = account_side h (told_size (d.seen disk) engine) (d.faults disk) (told_time knows (d.moment disk)) (g.C.Clock.asked c.args.clock.now) tasks in
     let disk' = c.answer.new.disk in
     let engine' = c.answer.new.engine in
     let before : LinkSide = side c.args.link.now in
@@ -317,26 +317,26 @@ returns-in-SourceFault-clause-step g c base h over =
     let later = told_later knows (d.moment disk) (d.moment disk') (λ is. (led_to (answered.SourceFault) (first_state c.in-Head.head.framing (limit_of c.in-Head.head)) c.args.login.now c.in-Head.head c.now-moment.result at.left mid.left (d.seen disk) (d.seen disk') engine engine' M answers base h over is).1.later) in
     let is_open = c.in-SourceFault.ensures.live fault_not_disk fault_not_memory in
     let told = c.in-SourceFault.ensures.goes_on.stays.told is_open in
-    let x' : AccountSide = account_side h (told_size (d.seen disk') engine') (d.faults disk') (told_time knows (d.moment disk')) (g.C.Clock.asked c.now-moment.new.self) no_tasks in
-    let u = unread moments c.args.login.now base h before at c.in-Head.head read.0 engine engine' c.now-moment.result mid x x' M (d.seen disk) (d.seen disk') told answers over in
+    let x' : AccountSide = account_side h (told_size (d.seen disk') engine') (d.faults disk') (told_time knows (d.moment disk')) (g.C.Clock.asked c.now-moment.new.self) tasks in
+    let u = unread slots moments c.args.login.now base h before at c.in-Head.head read.0 engine engine' c.now-moment.result mid x x' M (d.seen disk) (d.seen disk') told answers over in
     let same : c.link-1.given.0 ≡ c.answer.new.body.source.now = search rules in
     rw same (
       h,
-      unread_in s (d.left_since disk') (d.may_leave disk') x x' before at mid c.in-Head.head read keeps.0 keeps.1 c.answer.ensures.body.reads (counts_on h h (told_size (d.seen disk) engine) (told_size (d.seen disk') engine') (d.faults disk) (d.faults disk') x.time (told_time knows (d.moment disk')) x.asked (g.C.Clock.asked c.now-moment.new.self) c.answer.ensures.goes_on.stays.faults later c.now-moment.ensures.asked) refl
+      unread_in s (d.left_since disk') (d.may_leave disk') x x' before at mid c.in-Head.head read keeps.0 keeps.1 c.answer.ensures.body.reads (counts_on tasks h h (told_size (d.seen disk) engine) (told_size (d.seen disk') engine') (d.faults disk) (d.faults disk') x.time (told_time knows (d.moment disk')) x.asked (g.C.Clock.asked c.now-moment.new.self) c.answer.ensures.goes_on.stays.faults later c.now-moment.ensures.asked) refl
           (λ is y image. images_open d.seen d.may_leave disk' engine' base h c.answer.ensures.goes_on.stands is_open u.1 (told ∙ is) y image) (c.in-SourceFault.ensures.body.failed refl) u.0,
       record { over = λ is_open. u.1; front = all_of h; any_moment = u.2 },
     )
 
-pub returns-in-Disk-clause-step : goal.returns-in-Disk-clause-step
-returns-in-Disk-clause-step g c base h over =
+pub returns-in-Disk-clause-takes : goal.returns-in-Disk-clause-takes
+returns-in-Disk-clause-takes g c slots tasks base h over =
     let d = g.D.Disk in
     let side = side_of g.L.Source.left g.L.Sink.got g.L.Source.read_faults g.L.Sink.write_faults in
     let disk = c.args.disk.now in
     let engine = c.args.engine.now in
     let knows = is_some (d.seen disk) in
     let moments = g.C.Clock.gives (g.C.Clock.rule c.args.clock.now) in
-    let s : Setting = setting (is_some (g.L.Source.left c.args.link.now)) knows moments c.args.login.now engine.log.limit base in
-    let x : AccountSide = account_side h (told_size (d.seen disk) engine) (d.faults disk) (told_time knows (d.moment disk)) (g.C.Clock.asked c.args.clock.now) no_tasks in
+    let s : Setting = plain (is_some (g.L.Source.left c.args.link.now)) knows moments c.args.login.now slots engine.log.limit base in
+    let x : AccountSide = account_side h (told_size (d.seen disk) engine) (d.faults disk) (told_time knows (d.moment disk)) (g.C.Clock.asked c.args.clock.now) tasks in
     let disk' = c.answer.new.disk in
     let engine' = c.answer.new.engine in
     let before : LinkSide = side c.args.link.now in
@@ -349,26 +349,26 @@ returns-in-Disk-clause-step g c base h over =
     let answers = subst (λ (f : BodyState). AnswersAt (answered.Disk) f c.args.login.now c.in-Head.head c.now-moment.result at.left mid.left (d.seen disk) (d.seen disk') engine engine' M) framer c.in-Disk.ensures.answers in
     let later = told_later knows (d.moment disk) (d.moment disk') (λ is. (led_to (answered.Disk) (first_state c.in-Head.head.framing (limit_of c.in-Head.head)) c.args.login.now c.in-Head.head c.now-moment.result at.left mid.left (d.seen disk) (d.seen disk') engine engine' M answers base h over is).1.later) in
     let sink = subst (λ got. GotMore before.got (interim c.in-Head.head) got) (sym keeps.0) read.1 in
-    let f = disk_failed moments c.args.login.now base h before at c.in-Head.head read.0 engine engine' c.now-moment.result mid x (account_side h (told_size (d.seen disk') engine') (d.faults disk') (told_time knows (d.moment disk')) (g.C.Clock.asked c.now-moment.new.self) no_tasks) M (d.left_since disk') (d.seen disk) (d.seen disk') c.now-moment.ensures.given (λ none. none_after _ _ _ _ c.answer.ensures.body.after none) c.answer.ensures.goes_on.stays.told sink later answers over in
-    let x' : AccountSide = account_side f.0 (told_size (d.seen disk') engine') (d.faults disk') (told_time knows (d.moment disk')) (g.C.Clock.asked c.now-moment.new.self) no_tasks in
+    let f = disk_failed slots moments c.args.login.now base h before at c.in-Head.head read.0 engine engine' c.now-moment.result mid x (account_side h (told_size (d.seen disk') engine') (d.faults disk') (told_time knows (d.moment disk')) (g.C.Clock.asked c.now-moment.new.self) tasks) M (d.left_since disk') (d.seen disk) (d.seen disk') c.now-moment.ensures.given (λ none. none_after _ _ _ _ c.answer.ensures.body.after none) c.answer.ensures.goes_on.stays.told sink later answers over in
+    let x' : AccountSide = account_side f.0 (told_size (d.seen disk') engine') (d.faults disk') (told_time knows (d.moment disk')) (g.C.Clock.asked c.now-moment.new.self) tasks in
     let same : c.link-1.given.0 ≡ c.answer.new.body.source.now = search rules in
     rw same (
       f.0,
-      disk_in s (d.left_since disk') (d.may_leave disk') x x' before at mid c.in-Head.head read keeps.0 keeps.1 c.answer.ensures.body.reads (counts_on h f.0 (told_size (d.seen disk) engine) (told_size (d.seen disk') engine') (d.faults disk) (d.faults disk') x.time (told_time knows (d.moment disk')) x.asked (g.C.Clock.asked c.now-moment.new.self) c.answer.ensures.goes_on.stays.faults later c.now-moment.ensures.asked) (c.in-Disk.ensures.disk refl) f.1
+      disk_in s (d.left_since disk') (d.may_leave disk') x x' before at mid c.in-Head.head read keeps.0 keeps.1 c.answer.ensures.body.reads (counts_on tasks h f.0 (told_size (d.seen disk) engine) (told_size (d.seen disk') engine') (d.faults disk) (d.faults disk') x.time (told_time knows (d.moment disk')) x.asked (g.C.Clock.asked c.now-moment.new.self) c.answer.ensures.goes_on.stays.faults later c.now-moment.ensures.asked) (c.in-Disk.ensures.disk refl) f.1
           (λ is y image. nearly_between base h f.0 y f.3 (left_now d.may_leave d.moment d.left_since disk disk' base h f.0 (g.met.D.Disk.counts_now disk') (f.4 is) y image)),
       record { over = f.5; front = f.2; any_moment = f.4 },
     )
 
-pub returns-clause-step : goal.returns-clause-step
-returns-clause-step g c base h over =
+pub returns-clause-takes : goal.returns-clause-takes
+returns-clause-takes g c slots tasks base h over =
     let d = g.D.Disk in
     let side = side_of g.L.Source.left g.L.Sink.got g.L.Source.read_faults g.L.Sink.write_faults in
     let disk = c.args.disk.now in
     let engine = c.args.engine.now in
     let knows = is_some (d.seen disk) in
     let moments = g.C.Clock.gives (g.C.Clock.rule c.args.clock.now) in
-    let s : Setting = setting (is_some (g.L.Source.left c.args.link.now)) knows moments c.args.login.now engine.log.limit base in
-    let x : AccountSide = account_side h (told_size (d.seen disk) engine) (d.faults disk) (told_time knows (d.moment disk)) (g.C.Clock.asked c.args.clock.now) no_tasks in
+    let s : Setting = plain (is_some (g.L.Source.left c.args.link.now)) knows moments c.args.login.now slots engine.log.limit base in
+    let x : AccountSide = account_side h (told_size (d.seen disk) engine) (d.faults disk) (told_time knows (d.moment disk)) (g.C.Clock.asked c.args.clock.now) tasks in
     let disk' = c.answer.new.disk in
     let engine' = c.answer.new.engine in
     let before : LinkSide = side c.args.link.now in
@@ -380,12 +380,12 @@ returns-clause-step g c base h over =
     let M = λ (base : State Bytes) (h k : History). LeavesOnly d.moment d.left_since disk disk' (IsBetween base h k) in
     let answers = subst (λ (f : BodyState). AnswersAt (answered.Memory) f c.args.login.now c.in-Head.head c.now-moment.result at.left mid.left (d.seen disk) (d.seen disk') engine engine' M) framer c.in-Memory.ensures.answers in
     let later = told_later knows (d.moment disk) (d.moment disk') (λ is. (led_to (answered.Memory) (first_state c.in-Head.head.framing (limit_of c.in-Head.head)) c.args.login.now c.in-Head.head c.now-moment.result at.left mid.left (d.seen disk) (d.seen disk') engine engine' M answers base h over is).1.later) in
-    let x' : AccountSide = account_side h (told_size (d.seen disk') engine') (d.faults disk') (told_time knows (d.moment disk')) (g.C.Clock.asked c.now-moment.new.self) no_tasks in
-    let m = no_memory moments c.args.login.now base h before at c.in-Head.head read.0 engine engine' c.now-moment.result mid x x' M (d.seen disk) (d.seen disk') c.answer.ensures.goes_on.stays.told answers over in
+    let x' : AccountSide = account_side h (told_size (d.seen disk') engine') (d.faults disk') (told_time knows (d.moment disk')) (g.C.Clock.asked c.now-moment.new.self) tasks in
+    let m = no_memory slots moments c.args.login.now base h before at c.in-Head.head read.0 engine engine' c.now-moment.result mid x x' M (d.seen disk) (d.seen disk') c.answer.ensures.goes_on.stays.told answers over in
     let same : c.link-1.given.0 ≡ c.answer.new.body.source.now = search rules in
     rw same (
       h,
-      memory_in s (d.left_since disk') (d.may_leave disk') x x' before at mid c.in-Head.head read keeps.0 keeps.1 c.answer.ensures.body.reads (counts_on h h (told_size (d.seen disk) engine) (told_size (d.seen disk') engine') (d.faults disk) (d.faults disk') x.time (told_time knows (d.moment disk')) x.asked (g.C.Clock.asked c.now-moment.new.self) c.answer.ensures.goes_on.stays.faults later c.now-moment.ensures.asked) refl
+      memory_in s (d.left_since disk') (d.may_leave disk') x x' before at mid c.in-Head.head read keeps.0 keeps.1 c.answer.ensures.body.reads (counts_on tasks h h (told_size (d.seen disk) engine) (told_size (d.seen disk') engine') (d.faults disk) (d.faults disk') x.time (told_time knows (d.moment disk')) x.asked (g.C.Clock.asked c.now-moment.new.self) c.answer.ensures.goes_on.stays.faults later c.now-moment.ensures.asked) refl
           (λ is y image. only_between base h y (left_now d.may_leave d.moment d.left_since disk disk' base h h (g.met.D.Disk.counts_now disk') (m.1 is) y image)),
       record { over = m.0; front = all_of h; any_moment = m.1 },
     )
