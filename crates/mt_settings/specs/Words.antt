@@ -1,6 +1,6 @@
 -- The words of the command line, read from the front on: a command, and options, each with its value behind it. The first fault
 -- is the answer.
-use Rattle.std.specs.Prelude.{ℕ, ◌+◌, Bool, true, false, ◌&&◌, ◌||◌, ◌==◌, not, nat_eq, nat_le, nat_lt, bytes_eq, List, [], ◌∷◌, ◌++◌, length, codes, Option, Some, None, Result, Ok, Err, if◌then◌else◌}
+use Rattle.std.specs.Prelude.{ℕ, ◌+◌, ◌<◌, ◌≤◌, IfSome, Bool, true, false, ◌&&◌, ◌||◌, ◌==◌, not, nat_eq, nat_le, nat_lt, bytes_eq, List, [], ◌∷◌, ◌++◌, length, codes, Option, Some, None, Result, Ok, Err, if◌then◌else◌}
 use Rattle.std.specs.List.{list_all, list_any, starts_with}
 use Rattle.mt_base.specs.declared.limits.TheConstants.{LAST_MOMENT}
 use Rattle.mt_bytes.specs.Decimals.{decimal_number}
@@ -117,6 +117,10 @@ no_option = record { login = None; store = None; slots = None; log_limit = None;
 abbrev pub given_or : {A : Type 0} → Option A → A → A
 given_or None usual = usual
 given_or (Some x) usual = x
+
+-- the numbers of options lie between their bounds
+abbrev pub AreWithin : Given → Type 0
+AreWithin g = IfSome g.at (λ moment. moment ≤ LAST_MOMENT) × IfSome g.slots (λ n. (0 < n) × (n ≤ 64)) × IfSome g.connections (λ n. 0 < n)
 
 -- whether the command serves connections, or is a session
 abbrev pub serves_by : List ℕ → Option Bool

@@ -1,7 +1,7 @@
 //! What the words of the command line ask for.
-ghost use Rattle.std.specs.Prelude.{◌≡◌, ◌+◌, ◌<◌, ◌≤◌, ◌^◌, IfOk, IfSome, OnOk, Ok, Err, codes, map, string_bytes};
+ghost use Rattle.std.specs.Prelude.{ℕ, List, ◌≡◌, ◌+◌, ◌<◌, ◌≤◌, ◌^◌, IfOk, IfSome, OnOk, Ok, Err, codes, map, string_bytes};
 ghost use Rattle.mt_base.specs.declared.limits.TheConstants.{LAST_MOMENT};
-ghost use Rattle.mt_settings.specs.Words.{given_or, lonely, mode_by, no_option, option_named, options_from, serves_by, settings_by, settings_of, tasks_in, with_named};
+ghost use Rattle.mt_settings.specs.Words.{AreWithin, given_or, lonely, mode_by, no_option, option_named, options_from, serves_by, settings_by, settings_of, tasks_in, with_named};
 
 use crate::fault::{OptionFault, OptionName, SettingsError, UsageFault};
 use crate::options::{Given, option_named};
@@ -101,7 +101,7 @@ fn lonely(serves: bool, place: usize, name: &str) -> UsageFault
 fn read_options(alloc: Global, serves: bool, words: &[String]) -> Result<Given, SettingsError>
     ensures ok { IfOk result (λ given. options_from serves no_option 0 (map string_bytes words.now) ≡ Ok given) }
     ensures usage { (fault : UsageFault) → result ≡ Err (SettingsError.Usage fault) → options_from serves no_option 0 (map string_bytes words.now) ≡ Err fault }
-    ensures moment { IfOk result (λ given. IfSome given.at (λ moment. moment ≤ LAST_MOMENT)) }
+    ensures within { IfOk result AreWithin }
 {
     let mut given = Given::none();
     let mut place = 0;
@@ -221,8 +221,10 @@ impl Settings {
     pub fn read(alloc: Global, words: &[String]) -> Result<Settings, SettingsError>
         ensures ok { IfOk result (λ s. settings_of (map string_bytes words.now) ≡ Ok s) }
         ensures usage { (fault : UsageFault) → result ≡ Err (SettingsError.Usage fault) → settings_of (map string_bytes words.now) ≡ Err fault }
-        // A moment that is given is one that a clock has.
+        // A moment that is given is one that a clock has, at least one task runs at once, and at least one connection is served.
         ensures moment { IfOk result (λ s. IfSome s.at (λ moment. moment ≤ LAST_MOMENT)) }
+        ensures slots { IfOk result (λ s. (0 < s.slots) × (s.slots ≤ 64)) }
+        ensures connections { IfOk result (λ s. (n : ℕ) (listen : List ℕ) → s.mode ≡ Mode.Serve n listen → 0 < n) }
     {
         let [command, options @ ..] = words else {
             return Err(SettingsError::Usage(UsageFault::NoCommand));

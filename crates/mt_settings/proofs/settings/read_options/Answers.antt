@@ -2,7 +2,7 @@
 use Rattle.std.proofs.Common.{ℕ, List, rules, Ok, refl, ◌≡◌, ◌∙◌, ap, sym}
 use Rattle.std.specs.Prelude.{string_bytes}
 use Rattle.mt_settings.specs.Words.{option_named, with_named}
-use Rattle.mt_settings.proofs.Moments.{moment_of}
+use Rattle.mt_settings.proofs.Moments.{numbers_of}
 use Rattle.mt_settings.proofs.Reading.{next_option}
 use Rattle.mt_settings.proofs.settings.read_options.Goals as goal
 
@@ -20,6 +20,6 @@ options-preserved c = record {
   place = search rules;
 }
 
-pub returns-in-empty-clause-moment : goal.returns-in-empty-clause-moment
-returns-in-empty-clause-moment c =
-    moment_of string_bytes c.args.serves c.options.given c.options.place c.options.rest.now c.args.words.now c.in-empty.len_below c.options.invariant.so_far
+pub returns-in-empty-clause-within : goal.returns-in-empty-clause-within
+returns-in-empty-clause-within c =
+    numbers_of string_bytes c.args.serves c.options.given c.options.place c.options.rest.now c.args.words.now c.in-empty.len_below c.options.invariant.so_far
