@@ -13,7 +13,10 @@ use Rattle.mt_server.specs.Events.{AreWhole, DoorSide, Event, Events, GoesOn, Ha
 pub events_more : {L A : Type 0} (Did : Round L → A → A → Type 0) (Then : Event L → A → A → Type 0) (old : A) (xs : List (Event L)) (mid : A) (ys : List (Event L)) (new : A)
     → GoesOn xs → Events Did Then old xs mid → Events Did Then mid ys new → Events Did Then old (xs ++ ys) new
 events_more Did Then old [] mid ys new none h k = subst (λ m. Events Did Then m ys new) h k
-events_more Did Then old (Woke ∷ xs) mid ys new none h k = (h.0, h.1, events_more Did Then h.0 xs mid ys new none h.2 k)
+events_more {L} Did Then old (Woke last ∷ xs) mid ys new none h k =
+    let woke : Event L = Woke last in
+    let parts = any_none (fatal woke) (list_any fatal xs) none in
+    (h.0, h.1, (λ broke. absurd (true_false (sym broke ∙ parts.0))), events_more Did Then h.0 xs mid ys new parts.1 h.3 k)
 events_more Did Then old (Had x ∷ xs) mid ys new none h k =
     let parts = any_none (fatal (Had x)) (list_any fatal xs) none in
     (h.0, h.1, h.2, h.3, (λ broke. absurd (true_false (sym broke ∙ parts.0))), events_more Did Then h.1 xs mid ys new parts.1 h.5 k)
@@ -29,24 +32,24 @@ rounds_more Did Then old (x ∷ xs) mid ys new none h k =
 -- where each link had one turn, the turns are whole connections
 pub whole_rounds : {L A : Type 0} (Did : Round L → A → A → Type 0) (Then : Event L → A → A → Type 0) (old : A) (es : List (Event L)) (new : A) → AreWhole es → Events Did Then old es new → Rounds Did Then old (turns_in es) new
 whole_rounds Did Then old [] new whole led = led
-whole_rounds Did Then old (Woke ∷ es) new whole led = absurd whole
+whole_rounds Did Then old (Woke last ∷ es) new whole led = absurd whole
 whole_rounds {L} Did Then old (Had x ∷ es) new whole led =
     (led.0, led.1, led.2, led.3, (λ broke. ap (λ (more : List (Event L)). turns_in more) (led.4 broke)), whole_rounds Did Then led.1 es new whole.2 led.5)
 
 -- and as many were taken and are over as came
 pub whole_firsts : {L : Type 0} (es : List (Event L)) → AreWhole es → firsts (turns_in es) ≡ length es
 whole_firsts [] whole = refl
-whole_firsts (Woke ∷ es) whole = absurd whole
+whole_firsts (Woke last ∷ es) whole = absurd whole
 whole_firsts (Had x ∷ es) whole = let more = whole_firsts es whole.2 in let one : as_count x.first ≡ 1 = ap as_count whole.0 in omega (arith, more, one)
 
 pub whole_lasts : {L : Type 0} (es : List (Event L)) → AreWhole es → lasts (turns_in es) ≡ length es
 whole_lasts [] whole = refl
-whole_lasts (Woke ∷ es) whole = absurd whole
+whole_lasts (Woke last ∷ es) whole = absurd whole
 whole_lasts (Had x ∷ es) whole = let more = whole_lasts es whole.2 in let one : as_count x.over ≡ 1 = ap as_count whole.1 in omega (arith, more, one)
 
 pub whole_over : {L : Type 0} (es : List (Event L)) → AreWhole es → over_in (turns_in es) ≡ map given_of (turns_in es)
 whole_over [] whole = refl
-whole_over (Woke ∷ es) whole = absurd whole
+whole_over (Woke last ∷ es) whole = absurd whole
 whole_over {L} (Had x ∷ es) whole =
     ap (λ (b : Bool). if b then x.given ∷ over_in (turns_in es) else over_in (turns_in es)) whole.1 ∙ ap (λ (rest : List L). x.given ∷ rest) (whole_over es whole.2)
 
@@ -55,12 +58,12 @@ whole_over {L} (Had x ∷ es) whole =
 pub turns_more : {L : Type 0} (xs ys : List (Event L)) → turns_in (xs ++ ys) ≡ turns_in xs ++ turns_in ys
 turns_more [] ys = refl
 turns_more (Had x ∷ xs) ys = ap (λ rest. x ∷ rest) (turns_more xs ys)
-turns_more (Woke ∷ xs) ys = turns_more xs ys
+turns_more (Woke last ∷ xs) ys = turns_more xs ys
 
 whole_more : {L : Type 0} (xs ys : List (Event L)) → AreWhole xs → AreWhole ys → AreWhole (xs ++ ys)
 whole_more [] ys h k = k
 whole_more (Had x ∷ xs) ys h k = (h.0, h.1, whole_more xs ys h.2 k)
-whole_more (Woke ∷ xs) ys h k = absurd h
+whole_more (Woke last ∷ xs) ys h k = absurd h
 
 pub firsts_more : {L : Type 0} (xs ys : List (Round L)) → firsts (xs ++ ys) ≡ firsts xs + firsts ys
 firsts_more [] ys = omega arith

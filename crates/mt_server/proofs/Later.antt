@@ -7,22 +7,23 @@ use Rattle.mt_disk.specs.CrashModel.{LeavesOnly}
 use Rattle.mt_engine.specs.Current.{HasFront, IsBetween}
 use Rattle.mt_engine.specs.History.{Bytes, History}
 use Rattle.mt_model.specs.State.{State}
-use Rattle.mt_connection.specs.Account.{AccountSide, told_time}
-use Rattle.mt_connection.specs.Endings.{Cut, Ends, Refusing, Served, Settled}
+use Rattle.mt_runner.specs.Account.{AccountSide, told_time}
+use Rattle.mt_connection.specs.Endings.{Cut, Ends, Halted, Refusing, Served, Settled}
 use Rattle.mt_connection.specs.Sides.{LinkSide, Sides, joined}
 use Rattle.mt_connection.specs.Transcript.{Exchange, Setting, commands_of}
 use Rattle.mt_connection.specs.declared.end.ConnectionEnd.{ConnectionEnd}
 use Rattle.mt_connection.specs.declared.end.ConnectionEnd.TheVariants as ended
-use Rattle.mt_connection.proofs.Crashes.{all_of, front_of_front, not_later}
+use Rattle.mt_connection.proofs.Crashes.{front_of_front, not_later}
 use Rattle.mt_connection.proofs.Standing.{has_front_of, stands_on}
-use Rattle.mt_server.specs.Events.{Event, Events, Had, NothingFollows, Woke, on_link}
+use Rattle.mt_server.specs.Events.{DrainsBehind, Event, Events, Had, Woke, on_link}
 use Rattle.mt_server.specs.Guarantees.{Visited}
 use Rattle.mt_server.specs.Statuses.{most_messages}
+use Rattle.mt_server.proofs.Draining.{behind_counts, behind_grows, same_front}
 
 -- ---- what an end added
 
-same_front : (h k : History) → k ≡ h → IsPrefixOf h k
-same_front h k e = subst (λ (x : History). IsPrefixOf h x) (sym e) (all_of h)
+halted_grows : (s : Setting) (since : ℕ → Files → Type 0) (old new : Sides) (Did : AccountSide → AccountSide → Type 0) (h : Halted s since old new Did) → IsPrefixOf h.middle.history new.history → IsPrefixOf old.history new.history
+halted_grows s since old new Did h more = front_of_front old.history h.middle.history new.history (flat_map commands_of (h.exchange ∷ []), sym h.answered.history) more
 
 ends_grow : (s : Setting) (since : ℕ → Files → Type 0) (most : ℕ) (xs : List Exchange) (old : Sides) (end : ConnectionEnd) (new : Sides) → Ends s since most xs old end new → IsPrefixOf old.history new.history
 ends_grow s since most xs old ended.Ended new e = same_front old.history new.history e.1.history
@@ -32,8 +33,19 @@ ends_grow s since most xs old ended.Refused new e = same_front old.history new.h
 ends_grow s since most xs old ended.SourceFault new e = same_front old.history new.history e.1.0.history
 ends_grow s since most xs old ended.SinkFault new e =
     elim e.1 [ inl (inl cut) ↦ (cut.0.answer.added, sym cut.0.history) | inl (inr early) ↦ same_front old.history new.history early.0.history | inr refusing ↦ same_front old.history new.history refusing.history ]
-ends_grow s since most xs old ended.Disk new e = elim e.1 [ inl cut ↦ (cut.answer.added, sym cut.history) | inr none ↦ same_front old.history new.history none.history ]
-ends_grow s since most xs old ended.Memory new e = elim e.1 [ inl cut ↦ (cut.answer.added, sym cut.history) | inr none ↦ same_front old.history new.history none.history ]
+ends_grow s since most xs old ended.Full new e = halted_grows s since old new _ e.1 (same_front e.1.middle.history new.history e.1.did.unmoved.history)
+ends_grow s since most xs old ended.Disk new e =
+    elim e.1 [
+      | inl (inl cut) ↦ (cut.answer.added, sym cut.history)
+      | inl (inr none) ↦ same_front old.history new.history none.history
+      | inr halted ↦ halted_grows s since old new _ halted (halted.did.last, sym halted.did.history)
+    ]
+ends_grow s since most xs old ended.Memory new e =
+    elim e.1 [
+      | inl (inl cut) ↦ (cut.answer.added, sym cut.history)
+      | inl (inr none) ↦ same_front old.history new.history none.history
+      | inr halted ↦ halted_grows s since old new _ halted (same_front halted.middle.history new.history halted.did.history)
+    ]
 
 -- a connection goes on from the history that it began with
 pub served_grows : (s : Setting) (since : ℕ → Files → Type 0) (most : ℕ) (old : Sides) (end : ConnectionEnd) (new : Sides) → Served s since most old end new → IsPrefixOf old.history new.history
@@ -92,6 +104,18 @@ module _ (s : Setting) (past since : ℕ → Files → Type 0) (now : ℕ) (all 
     pieces = x.pieces;
   }
 
+  -- a message whose turn ended the connection, where it led on from its history
+  abbrev halted_later : (Did : AccountSide → AccountSide → Type 0) (old new : Sides) (h : Halted s past old new Did) → h.middle.time ≤ new.time → IsPrefixOf h.middle.history new.history → new.time ≤ now → IsPrefixOf new.history all → Halted s since old new Did
+  halted_later Did old new h early grew there front = record {
+    exchange = h.exchange;
+    middle = h.middle;
+    answered = h.answered;
+    stand = stands_on s past since now all goes old.history old.time (h.exchange ∷ []) h.middle.time (omega (arith, early, there))
+        (subst (λ (k : History). IsPrefixOf k all) h.answered.history (front_of_front h.middle.history new.history all grew front)) h.stand;
+    did = h.did;
+    link = h.link;
+  }
+
   ends_later : (most : ℕ) (xs : List Exchange) (old : Sides) (end : ConnectionEnd) (new : Sides) → new.time ≤ now → IsPrefixOf new.history all → Ends s past most xs old end new → Ends s since most xs old end new
   ends_later most xs old ended.Ended new there front e = e
   ends_later most xs old ended.Many new there front e = e
@@ -103,8 +127,27 @@ module _ (s : Setting) (past since : ℕ → Files → Type 0) (now : ℕ) (all 
     elim e.1 [ inl (inl cut) ↦ inl (inl (cut_later old new there front cut.0, cut.1)) | inl (inr early) ↦ inl (inr early) | inr refusing ↦ inr (refusing_later old new there front refusing) ],
     e.2,
   )
-  ends_later most xs old ended.Disk new there front e = (e.0, elim e.1 [ inl cut ↦ inl (cut_later old new there front cut) | inr none ↦ inr none ], e.2)
-  ends_later most xs old ended.Memory new there front e = (e.0, elim e.1 [ inl cut ↦ inl (cut_later old new there front cut) | inr none ↦ inr none ])
+  ends_later most xs old ended.Full new there front e =
+      let h = e.1 in
+      let counts = h.did.unmoved.counts in
+      (e.0, halted_later _ old new h counts.time (same_front h.middle.history new.history h.did.unmoved.history) there front)
+  ends_later most xs old ended.Disk new there front e = (
+    e.0,
+    elim e.1 [
+      | inl (inl cut) ↦ inl (inl (cut_later old new there front cut))
+      | inl (inr none) ↦ inl (inr none)
+      | inr halted ↦ inr (halted_later _ old new halted halted.did.counts.time (halted.did.last, sym halted.did.history) there front)
+    ],
+    e.2,
+  )
+  ends_later most xs old ended.Memory new there front e = (
+    e.0,
+    elim e.1 [
+      | inl (inl cut) ↦ inl (inl (cut_later old new there front cut))
+      | inl (inr none) ↦ inl (inr none)
+      | inr halted ↦ inr (halted_later _ old new halted halted.did.counts.time (same_front halted.middle.history new.history halted.did.history) there front)
+    ],
+  )
 
   -- one connection
   pub served_later : (most : ℕ) (old : Sides) (end : ConnectionEnd) (new : Sides) → new.time ≤ now → IsPrefixOf new.history all → Served s past most old end new → Served s since most old end new
@@ -124,20 +167,21 @@ module _ (s : Setting) (past since : ℕ → Files → Type 0) (now : ℕ) (all 
 
 module _ {L : Type 0} (side : L → LinkSide) (stays : L → L → Type 0) (s : Setting) (past since : ℕ → Files → Type 0) (now : ℕ) (all : History)
     (goes : s.knows ≡ true → (t : ℕ) (c : Files) → t ≤ now → since t c → past t c ⊎ HasFront s.base c all) where
-  pub events_later : (old : AccountSide) (es : List (Event L)) (new : AccountSide) → new.time ≤ now → IsPrefixOf new.history all → Events (Visited side stays s past) NothingFollows old es new
-      → (old.time ≤ new.time) × IsPrefixOf old.history new.history × Events (Visited side stays s since) NothingFollows old es new
+  pub events_later : (old : AccountSide) (es : List (Event L)) (new : AccountSide) → new.time ≤ now → IsPrefixOf new.history all → Events (Visited side stays s past) (DrainsBehind s) old es new
+      → (old.time ≤ new.time) × IsPrefixOf old.history new.history × Events (Visited side stays s since) (DrainsBehind s) old es new
   events_later old [] new there front led = ((let a = ap (λ (x : AccountSide). x.time) led in omega (arith, a)), same_front old.history new.history (ap (λ (x : AccountSide). x.history) led), led)
-  events_later old (Woke ∷ es) new there front led =
-      let rest = events_later led.0 es new there front led.2 in
-      let time = ap (λ (x : AccountSide). x.time) led.1 in
-      let history = ap (λ (x : AccountSide). x.history) led.1 in
-      ((let a = rest.0 in omega (arith, a, time)), front_of_front old.history led.0.history new.history (same_front old.history led.0.history history) rest.1, (led.0, led.1, rest.2))
+  events_later old (Woke last ∷ es) new there front led =
+      let rest = events_later led.0 es new there front led.3 in
+      let e : Event L = Woke last in
+      let counts = behind_counts s e old led.0 led.1 in
+      let time = counts.time in
+      ((let a = rest.0 in omega (arith, a, time)), front_of_front old.history led.0.history new.history (behind_grows s e old led.0 led.1) rest.1, (led.0, led.1, led.2, rest.2))
   events_later old (Had x ∷ es) new there front led =
       let rest = events_later led.1 es new there front led.5 in
-      let time = ap (λ (x : AccountSide). x.time) led.3 in
-      let history = ap (λ (x : AccountSide). x.history) led.3 in
+      let counts = behind_counts s (Had x) led.0 led.1 led.3 in
+      let time = counts.time in
       let before = served_time (on_link s (side x.taken)) past most_messages (joined (side x.taken) old) x.end (joined (side x.given) led.0) led.2.0 in
-      let behind = front_of_front led.0.history led.1.history new.history (same_front led.0.history led.1.history history) rest.1 in
+      let behind = front_of_front led.0.history led.1.history new.history (behind_grows s (Had x) led.0 led.1 led.3) rest.1 in
       let grew = served_grows (on_link s (side x.taken)) past most_messages (joined (side x.taken) old) x.end (joined (side x.given) led.0) led.2.0 in
       let early : led.0.time ≤ now = let a = rest.0 in omega (arith, a, time, there) in (
         (let a = rest.0 in omega (arith, a, time, before)),

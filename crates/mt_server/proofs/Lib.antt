@@ -1,8 +1,11 @@
 pub mod Following
+pub mod Draining
+pub mod Gains
 pub mod Connecting
 pub mod Later
 pub mod Doors
 pub mod Going
+pub mod Happening
 pub mod Overs
 pub mod Turns
 pub mod Opened
@@ -13,3 +16,7 @@ pub mod Rest
 pub mod Settling
 pub mod Wanted
 pub mod Tops
+pub mod Worked
+pub mod Finishing
+pub mod Complete
+pub mod Done

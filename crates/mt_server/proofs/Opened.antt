@@ -13,7 +13,7 @@ use Rattle.mt_engine.specs.Opening.{IsReadable, KeepsLogs}
 use Rattle.mt_engine.specs.declared.opening.Unreadable.{Unreadable}
 use Rattle.mt_log.specs.LogImage.{SameLog, log_size}
 use Rattle.mt_model.specs.State.{State}
-use Rattle.mt_connection.specs.Account.{account_side, no_tasks, told_time}
+use Rattle.mt_runner.specs.Account.{NoCountFell, Tasks, account_side, told_time}
 use Rattle.mt_connection.specs.Transcript.{Setting}
 use Rattle.mt_connection.proofs.Crashes.{all_of, between_all, told_later}
 use Rattle.mt_server.specs.Guarantees.{HasSize, Holds, IsDurable, scene}
@@ -21,7 +21,8 @@ use Rattle.mt_server.specs.Events.{size_of}
 use Rattle.mt_server.specs.Statuses.{IsUnopened, NotOpened}
 use Rattle.mt_server.specs.declared.status.Status.{Status}
 use Rattle.mt_server.specs.declared.status.Status.TheVariants as status
-use Rattle.mt_server.proofs.Connecting.{holds, leaves}
+use Rattle.mt_server.proofs.Connecting.{holds, is_stood, leaves}
+use Rattle.mt_server.proofs.Gains.{gained_none}
 
 -- files with the same log have the same history
 pub same_history : (base : State Bytes) (h : History) (files c : Files) → SameLog files c → HasHistory base h files → HasHistory base h c
@@ -72,22 +73,34 @@ sized_unopened status.OutOfMemory got w d got' w' d' used size is same = tt
 sized_unopened status.Usage got w d got' w' d' used size is same = absurd is
 sized_unopened (status.Session end) got w d got' w' d' used size is same = absurd is
 sized_unopened (status.Serve end) got w d got' w' d' used size is same = absurd is
+sized_unopened (status.Drained last) got w d got' w' d' used size is same = absurd is
 
 durable_unopened : (end : Status) (base : State Bytes) (whole : History) (c : Files) → IsUnopened end → HasHistory base whole c → IsDurable end base whole c
 durable_unopened (status.Session end) base whole c is has = absurd is
 durable_unopened (status.Serve end) base whole c is has = absurd is
+durable_unopened (status.Drained last) base whole c is has = absurd is
 durable_unopened end base whole c is has = has
 
 -- what a run leaves whose store was not opened
 module _ {D : Type 0} (seen : D → Option Files) (may_leave : D → Files → Type 0) (moment : D → ℕ) (left_since : D → ℕ → Files → Type 0) (old new : D)
     (counts_now : (t : ℕ) (c : Files) → t ≤ moment new → may_leave new c → left_since new t c) (seen_is_left : ForSome (seen new) (may_leave new)) where
-  pub opening_holds : (s : Setting) (h : History) (d d' asked : ℕ) (end : Status) (got : Option Bytes) (w : ℕ) (got' : Option Bytes) (w' : ℕ) → s.knows ≡ is_some (seen old) → ForSome (seen old) (HasHistory s.base h)
+  pub opening_holds : (s : Setting) (h : History) (d d' asked : ℕ) (tasks : Tasks) (end : Status) (got : Option Bytes) (w : ℕ) (got' : Option Bytes) (w' : ℕ) → s.knows ≡ is_some (seen old) → ForSome (seen old) (HasHistory s.base h)
       → ForSome (seen old) (λ files. LeavesOnly moment left_since old new (SameLog files)) → IsUnopened end → NotOpened end got w d got' w' d' → NeverFell d d'
       → ((why : Unreadable) → end ≡ status.UnreadableLog why → ForSome (seen old) (λ files. KeepsLogs seen may_leave new files))
-      → Holds s (scene seen may_leave left_since old (account_side h (size_of (seen old)) d (told_time (is_some (seen old)) (moment old)) asked no_tasks)) end
-      (scene seen may_leave left_since new (account_side h (size_of (seen old)) d' (told_time (is_some (seen old)) (moment new)) asked no_tasks))
-  opening_holds s h d d' asked end got w got' w' same has any_moment is ends fell refused =
-      holds s _ end _ (all_of h)
+      → Holds s (scene seen may_leave left_since old (account_side h (size_of (seen old)) d (told_time (is_some (seen old)) (moment old)) asked tasks)) end
+      (scene seen may_leave left_since new (account_side h (size_of (seen old)) d' (told_time (is_some (seen old)) (moment new)) asked tasks))
+  opening_holds s h d d' asked tasks end got w got' w' same has any_moment is ends fell refused =
+      let counts : NoCountFell (account_side h (size_of (seen old)) d (told_time (is_some (seen old)) (moment old)) asked tasks) (account_side h (size_of (seen old)) d' (told_time (is_some (seen old)) (moment new)) asked tasks) = record {
+        disk = fell;
+        time = told_later (is_some (seen old)) (moment old) (moment new) (λ told. let there = some_files (seen old) told in (any_moment there.0 there.1).later);
+        asked = omega arith;
+        spawn = omega arith;
+        waits = omega arith;
+        company = omega arith;
+      } in
+      holds s _ end _
+      (λ knows. let there = some_files (seen old) (sym same ∙ knows) in is_stood s.base h there.0 (has there.0 there.1))
+      (gained_none s _ _ refl counts)
       (λ knows c image.
       let there = some_files (seen old) (sym same ∙ knows) in
       durable_unopened end s.base h c is (same_history s.base h there.0 c (leaves_now moment left_since may_leave old new (SameLog there.0) (any_moment there.0 there.1) counts_now c image) (has there.0 there.1)))
@@ -100,11 +113,4 @@ module _ {D : Type 0} (seen : D → Option Files) (may_leave : D → Files → T
       (λ knows.
       leaves moment left_since old new (IsBetween s.base h h) (is_some (seen old))
       (λ told. let there = some_files (seen old) told in crash_of_opening may_leave moment left_since old new there.0 s.base h (has there.0 there.1) (any_moment there.0 there.1)) (sym same ∙ knows))
-      (record {
-        disk = fell;
-        time = told_later (is_some (seen old)) (moment old) (moment new) (λ told. let there = some_files (seen old) told in (any_moment there.0 there.1).later);
-        asked = omega arith;
-        spawn = omega arith;
-        waits = omega arith;
-        company = omega arith;
-      })
+      counts

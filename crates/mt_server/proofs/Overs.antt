@@ -1,18 +1,23 @@
--- The end of a turn, and a call at a door in the setting that the serving began with.
-use Rattle.std.proofs.Common.{◌≡◌, ◌≢◌, ℕ, Some, None, Bool, false, ap, sym, subst, ◌∙◌}
+-- The end of a turn, and an event in the setting that the serving began with.
+use Rattle.std.proofs.Common.{◌≡◌, ◌≢◌, ℕ, List, [], map, Option, Some, None, Bool, ap, sym, subst, ◌∙◌}
 use Rattle.std.proofs.lemmas.Option.{same_Some}
 use Rattle.mt_disk.specs.Files.{Files}
-use Rattle.mt_engine.specs.History.{Bytes, History}
+use Rattle.mt_engine.specs.Current.{EngineState}
+use Rattle.mt_engine.specs.History.{Bytes}
+use Rattle.mt_model.specs.CommandStep.{replay}
+use Rattle.mt_spawn.specs.Children.{Seen, ticket_of}
+use Rattle.mt_spawn.specs.declared.task.Left.{Left}
+use Rattle.mt_runner.specs.AtWork.{AreRight, AtWork}
+use Rattle.mt_runner.specs.Attempts.{RunnerState, attempts, number_of}
+use Rattle.mt_runner.specs.declared.runner.Started.{Started}
 use Rattle.mt_model.specs.State.{State}
-use Rattle.mt_connection.specs.Account.{account_side, no_tasks, told_time}
-use Rattle.mt_connection.specs.Sides.{LinkSide}
-use Rattle.mt_connection.specs.Transcript.{setting}
+use Rattle.mt_types.specs.declared.task.Raw.{Raw}
+use Rattle.mt_types.specs.declared.task.Run.{Run}
+use Rattle.mt_runner.specs.Account.{AccountSide, account_side, told_time}
+use Rattle.mt_connection.specs.Transcript.{Setting, setting}
 use Rattle.mt_connection.specs.declared.end.ConnectionEnd.{ConnectionEnd}
 use Rattle.mt_connection.specs.declared.end.ConnectionEnd.TheVariants as ended
-use Rattle.mt_server.specs.Events.{DoorSide, end_breaks}
-use Rattle.mt_server.specs.Guarantees.{shop}
-use Rattle.mt_server.specs.Visiting.{Visit}
-use Rattle.mt_server.specs.declared.came.Came.{Came}
+use Rattle.mt_server.specs.Events.{end_breaks}
 use Rattle.mt_server.specs.declared.status.ServeEnd.TheVariants as serving
 
 -- after an end that breaks nothing the engine goes on
@@ -22,19 +27,27 @@ no_break end is = (
   (λ e. let no : Some serving.Memory ≡ None = sym (ap end_breaks (same_Some _ _ e)) ∙ is in cc),
 )
 
--- a call in the setting that the serving began with
-module _ {L R : Type 0} (side : L → LinkSide) (stays : L → L → Type 0) (moments : R → ℕ → ℕ → Type 0) (login : Bytes) (base : State Bytes) where
-  pub visit_here : (knows knows' : Bool) (rule rule' : R) (limit limit' : ℕ) → knows' ≡ knows → rule' ≡ rule → limit' ≡ limit → (since : ℕ → Files → Type 0) (images : Files → Type 0)
-      → (m : History) (used d t asked : ℕ) (door : DoorSide L) (came : Came) (k : History) (used2 d2 t2 asked2 : ℕ) (door2 : DoorSide L)
-      → Visit side stays (setting false knows' (moments rule') login limit' base) since images (shop (account_side m used d (told_time knows' t) asked no_tasks) door) came (shop (account_side k used2 d2 (told_time knows' t2) asked2 no_tasks) door2)
-      → Visit side stays (setting false knows (moments rule) login limit base) since images (shop (account_side m used d (told_time knows t) asked no_tasks) door) came (shop (account_side k used2 d2 (told_time knows t2) asked2 no_tasks) door2)
-  visit_here knows knows' rule rule' limit limit' same_knows same_rule same_limit since images m used d t asked door came k used2 d2 t2 asked2 door2 did =
-      subst (λ (b : Bool). Visit side stays (setting false b (moments rule) login limit base) since images (shop (account_side m used d (told_time b t) asked no_tasks) door) came (shop (account_side k used2 d2 (told_time b t2) asked2 no_tasks) door2)) same_knows
-      (subst (λ (r : R). Visit side stays (setting false knows' (moments r) login limit base) since images (shop (account_side m used d (told_time knows' t) asked no_tasks) door) came (shop (account_side k used2 d2 (told_time knows' t2) asked2 no_tasks) door2)) same_rule
-      (subst (λ (n : ℕ). Visit side stays (setting false knows' (moments rule') login n base) since images (shop (account_side m used d (told_time knows' t) asked no_tasks) door) came (shop (account_side k used2 d2 (told_time knows' t2) asked2 no_tasks) door2)) same_limit did))
+-- an account whose moment is the disk's where it tells what it holds
+abbrev pub timed : Bool → AccountSide → AccountSide
+timed knows x = account_side x.history x.used x.disk_faults (told_time knows x.time) x.asked x.tasks
 
--- an account that stayed as it was, in that setting
-pub same_here : (knows knows' : Bool) → knows' ≡ knows → (m : History) (used d t asked : ℕ) (k : History) (used2 d2 t2 asked2 : ℕ)
-    → account_side k used2 d2 (told_time knows' t2) asked2 no_tasks ≡ account_side m used d (told_time knows' t) asked no_tasks → account_side k used2 d2 (told_time knows t2) asked2 no_tasks ≡ account_side m used d (told_time knows t) asked no_tasks
-same_here knows knows' same m used d t asked k used2 d2 t2 asked2 is =
-    subst (λ (b : Bool). account_side k used2 d2 (told_time b t2) asked2 no_tasks ≡ account_side m used d (told_time b t) asked no_tasks) same is
+-- what holds in the setting of later parts holds in that of the parts that the serving began with
+pub in_setting : {R C : Type 0} (moments : R → ℕ → ℕ → Type 0) (runs : C → Run → Bytes → Raw → Type 0) (base : State Bytes) (P : Bool → Setting → Type 0) (knows knows' : Bool) (rule rule' : R) (child child' : C) (login login' : Bytes) (slots slots' limit limit' : ℕ) (hears : Bool)
+    → knows' ≡ knows → rule' ≡ rule → child' ≡ child → login' ≡ login → slots' ≡ slots → limit' ≡ limit
+    → P knows' (setting hears knows' (moments rule') (runs child') login' slots' limit' base) → P knows (setting hears knows (moments rule) (runs child) login slots limit base)
+in_setting {R} {C} moments runs base P knows knows' rule rule' child child' login login' slots slots' limit limit' hears same_knows same_rule same_child same_login same_slots same_limit p =
+    subst (λ (b : Bool). P b (setting hears b (moments rule) (runs child) login slots limit base)) same_knows
+    (subst (λ (r : R). P knows' (setting hears knows' (moments r) (runs child) login slots limit base)) same_rule
+    (subst (λ (r : C). P knows' (setting hears knows' (moments rule') (runs r) login slots limit base)) same_child
+    (subst (λ (b : Bytes). P knows' (setting hears knows' (moments rule') (runs child') b slots limit base)) same_login
+    (subst (λ (n : ℕ). P knows' (setting hears knows' (moments rule') (runs child') login' n limit base)) same_slots
+    (subst (λ (n : ℕ). P knows' (setting hears knows' (moments rule') (runs child') login' slots' n base)) same_limit p)))))
+
+-- a runner that keeps nothing is at work over any engine
+pub at_work_idle : {F : Type 0} (may : F → Raw → Type 0) (runs : Run → Bytes → Raw → Type 0) (seen : Seen F) (held : Option Left) (runner : RunnerState) (files : Option Files) (engine : EngineState)
+    → runner.kept ≡ [] → seen.live ≡ [] → held ≡ None → AtWork may runs seen held runner files engine
+at_work_idle may runs seen held runner files engine kept live free = record {
+  paired = ap (map number_of) kept ∙ sym (ap (map ticket_of) live);
+  free = free;
+  right = λ base h is. subst (λ (ks : List Started). AreRight runner.login runs may (replay base h) (attempts ks seen.live)) (sym kept) tt;
+}

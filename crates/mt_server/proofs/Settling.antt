@@ -10,10 +10,9 @@ use Rattle.mt_log.specs.LogImage.{Fit, SameLog, chosen_by, chosen_file}
 use Rattle.mt_log.specs.LogState.{LogState, Stands}
 use Rattle.mt_engine.specs.Opening.{IsRefused, KeepsLogs}
 use Rattle.mt_engine.specs.declared.opening.Unreadable.{Unreadable}
-use Rattle.mt_connection.specs.declared.end.ConnectionEnd.{ConnectionEnd}
+use Rattle.mt_runner.specs.declared.turn.Turn.TheVariants as turn
 use Rattle.mt_connection.specs.declared.end.ConnectionEnd.TheVariants as ended
-use Rattle.mt_server.specs.Statuses.{IsReadyAfter, NotOpened, code_of}
-use Rattle.mt_server.specs.declared.status.ServeEnd.{ServeEnd}
+use Rattle.mt_server.specs.Statuses.{IsBegun, IsReadyAfter, NotOpened, StaysOpen, code_of}
 use Rattle.mt_server.specs.declared.status.ServeEnd.TheVariants as serving
 use Rattle.mt_server.specs.declared.status.Status.{Status}
 use Rattle.mt_server.specs.declared.status.Status.TheVariants as status
@@ -46,22 +45,18 @@ ready_refused seen may_leave moment left_since old new why knows refused any_mom
 
 -- ---- the status
 
-pub ready_session : (end : ConnectionEnd) (told : Bool) (Ready : Type 0) → (end ≢ ended.Disk → end ≢ ended.Memory → Ready) → IsReadyAfter (status.Session end) told Ready
-ready_session ended.Disk told Ready ready = tt
-ready_session ended.Memory told Ready ready = tt
-ready_session ended.Ended told Ready ready = ready (λ e. cc) (λ e. cc)
-ready_session ended.Many told Ready ready = ready (λ e. cc) (λ e. cc)
-ready_session ended.Truncated told Ready ready = ready (λ e. cc) (λ e. cc)
-ready_session ended.Refused told Ready ready = ready (λ e. cc) (λ e. cc)
-ready_session ended.SourceFault told Ready ready = ready (λ e. cc) (λ e. cc)
-ready_session ended.SinkFault told Ready ready = ready (λ e. cc) (λ e. cc)
-
-pub ready_serve : (end : ServeEnd) (told : Bool) (Ready : Type 0) → (end ≢ serving.Disk → end ≢ serving.Memory → Ready) → IsReadyAfter (status.Serve end) told Ready
-ready_serve serving.Disk told Ready ready = tt
-ready_serve serving.Memory told Ready ready = tt
-ready_serve serving.Served told Ready ready = ready (λ e. cc) (λ e. cc)
-ready_serve serving.NoLink told Ready ready = ready (λ e. cc) (λ e. cc)
-ready_serve serving.Spent told Ready ready = ready (λ e. cc) (λ e. cc)
+pub ready_begun : (end : Status) (closed told : Bool) (Ready : Type 0) → IsBegun end → StaysOpen end closed → (closed ≡ false → Ready) → IsReadyAfter end told Ready
+ready_begun (status.Session ended.Disk) closed told Ready begun live ready = tt
+ready_begun (status.Session ended.Memory) closed told Ready begun live ready = tt
+ready_begun (status.Drained turn.Disk) closed told Ready begun live ready = tt
+ready_begun (status.Drained turn.Memory) closed told Ready begun live ready = tt
+ready_begun (status.Serve serving.Disk) closed told Ready begun live ready = tt
+ready_begun (status.Serve serving.Memory) closed told Ready begun live ready = tt
+ready_begun status.Usage closed told Ready begun live ready = absurd begun
+ready_begun (status.UnreadableLog why) closed told Ready begun live ready = absurd begun
+ready_begun status.OpeningFault closed told Ready begun live ready = absurd begun
+ready_begun status.OutOfMemory closed told Ready begun live ready = absurd begun
+ready_begun end closed told Ready begun live ready = ready live
 
 pub ready_unopened : (end : Status) (told : Bool) (Ready : Type 0) (got : Option (List ℕ)) (w d : ℕ) (got' : Option (List ℕ)) (w' d' : ℕ) → NotOpened end got w d got' w' d'
     → ((why : Unreadable) → end ≡ status.UnreadableLog why → told ≡ true → Ready) → IsReadyAfter end told Ready
@@ -71,6 +66,7 @@ ready_unopened status.OutOfMemory told Ready got w d got' w' d' is ready = tt
 ready_unopened status.Usage told Ready got w d got' w' d' is ready = absurd is
 ready_unopened (status.Session end) told Ready got w d got' w' d' is ready = absurd is
 ready_unopened (status.Serve end) told Ready got w d got' w' d' is ready = absurd is
+ready_unopened (status.Drained last) told Ready got w d got' w' d' is ready = absurd is
 
 -- ---- the number
 
@@ -79,16 +75,11 @@ ready_by status.Usage told Ready no_fault no_want tells ready = ready
 ready_by (status.UnreadableLog why) told Ready no_fault no_want tells ready = ready (tells refl)
 ready_by status.OpeningFault told Ready no_fault no_want tells ready = absurd (no_fault refl)
 ready_by status.OutOfMemory told Ready no_fault no_want tells ready = absurd (no_want refl)
+ready_by (status.Drained turn.Disk) told Ready no_fault no_want tells ready = absurd (no_fault refl)
+ready_by (status.Drained turn.Memory) told Ready no_fault no_want tells ready = absurd (no_want refl)
 ready_by (status.Session ended.Disk) told Ready no_fault no_want tells ready = absurd (no_fault refl)
 ready_by (status.Session ended.Memory) told Ready no_fault no_want tells ready = absurd (no_want refl)
-ready_by (status.Session ended.Ended) told Ready no_fault no_want tells ready = ready
-ready_by (status.Session ended.Many) told Ready no_fault no_want tells ready = ready
-ready_by (status.Session ended.Truncated) told Ready no_fault no_want tells ready = ready
-ready_by (status.Session ended.Refused) told Ready no_fault no_want tells ready = ready
-ready_by (status.Session ended.SourceFault) told Ready no_fault no_want tells ready = ready
-ready_by (status.Session ended.SinkFault) told Ready no_fault no_want tells ready = ready
 ready_by (status.Serve serving.Disk) told Ready no_fault no_want tells ready = absurd (no_fault refl)
 ready_by (status.Serve serving.Memory) told Ready no_fault no_want tells ready = absurd (no_want refl)
-ready_by (status.Serve serving.Served) told Ready no_fault no_want tells ready = ready
-ready_by (status.Serve serving.NoLink) told Ready no_fault no_want tells ready = ready
 ready_by (status.Serve serving.Spent) told Ready no_fault no_want tells ready = absurd (no_want refl)
+ready_by s told Ready no_fault no_want tells ready = ready

@@ -6,10 +6,11 @@ use Rattle.mt_engine.specs.History.{Bytes}
 use Rattle.mt_engine.specs.declared.opening.OpenEnd.{OpenEnd}
 use Rattle.mt_engine.specs.declared.opening.OpenEnd.TheVariants as opening
 use Rattle.mt_engine.specs.declared.opening.Unreadable.{Unreadable}
-use Rattle.mt_connection.specs.declared.end.ConnectionEnd.{ConnectionEnd}
 use Rattle.mt_connection.specs.declared.end.ConnectionEnd.TheVariants as ended
 use Rattle.mt_server.specs.Lines.{SaysLine, line_of}
-use Rattle.mt_server.specs.Statuses.{ByBytes, ByDisk, ByLink, IsOfSession, IsUnopened, NotOpened, Tells}
+use Rattle.mt_server.specs.Statuses.{ByBytes, ByDisk, ByLink, BySpawner, IsOfSession, IsUnopened, NotOpened, Tells}
+use Rattle.mt_runner.specs.declared.turn.Turn.TheVariants as turn
+use Rattle.mt_server.specs.declared.status.ServeEnd.TheVariants as serving
 use Rattle.mt_server.specs.declared.status.Status.{Status}
 use Rattle.mt_server.specs.declared.status.Status.TheVariants as status
 
@@ -35,10 +36,13 @@ told_why end s got w got' w' why tells is = absurd tells
 pub unopened_session : (s : Status) (got : Option Bytes) (w d : ℕ) (got' : Option Bytes) (w' d' : ℕ) → NotOpened s got w d got' w' d' → IsOfSession s
 unopened_session status.Usage got w d got' w' d' closed = closed
 unopened_session (status.Serve end) got w d got' w' d' closed = closed
+unopened_session (status.Session end) got w d got' w' d' closed = absurd closed
+unopened_session (status.Drained last) got w d got' w' d' closed = absurd closed
 unopened_session s got w d got' w' d' closed = tt
 
 unopened_bytes : (bytes : Bytes) (s : Status) → IsUnopened s → ByBytes bytes s
 unopened_bytes bytes (status.Session end) closed = absurd closed
+unopened_bytes bytes (status.Drained last) closed = absurd closed
 unopened_bytes bytes s closed = tt
 
 pub some_bytes : (left : Option Bytes) (s : Status) → IsUnopened s → IfSome left (λ bytes. ByBytes bytes s)
@@ -51,6 +55,20 @@ unopened_link s r w r' w' closed = tt
 
 -- ---- a fault that was counted after an opening
 
-pub later_session : (end : ConnectionEnd) (d m d' : ℕ) → NeverFell d m → ByDisk (status.Session end) m d' → ByDisk (status.Session end) d d'
-later_session ended.Disk d m d' later by = omega (arith, later, by)
-later_session end d m d' later by = tt
+pub later_disk : (end : Status) (d m d' : ℕ) → NeverFell d m → ByDisk end m d' → ByDisk end d d'
+later_disk (status.Session ended.Disk) d m d' later by = omega (arith, later, by)
+later_disk (status.Drained turn.Disk) d m d' later by = omega (arith, later, by)
+later_disk (status.Serve serving.Disk) d m d' later by = omega (arith, later, by)
+later_disk status.OpeningFault d m d' later by = omega (arith, later, by)
+later_disk end d m d' later by = tt
+
+-- and one of the spawner, where children were ended since
+pub later_spawner : (end : Status) (f f' f2 : ℕ) → BySpawner end f f' → NeverFell f' f2 → BySpawner end f f2
+later_spawner (status.Drained turn.SpawnFault) f f' f2 by later = omega (arith, later, by)
+later_spawner (status.Serve serving.TasksFailed) f f' f2 by later = omega (arith, later, by)
+later_spawner end f f' f2 by later = tt
+
+pub unopened_spawner : (end : Status) (f f' : ℕ) → IsUnopened end → BySpawner end f f'
+unopened_spawner (status.Drained last) f f' closed = absurd closed
+unopened_spawner (status.Serve end) f f' closed = absurd closed
+unopened_spawner end f f' closed = tt

@@ -1,8 +1,8 @@
 //! The top call: the words are read, the store is opened, and one session or many connections are served.
 //!
 //! - `top`: `mantad`, the call that the program makes, with all that is promised of it; `run`: the command that the words ask for.
-//! - `session`: one connection over a source and a sink; `serve`: turns of the links of a door, one after another; `came`: what
-//!   a call at the door came to.
+//! - `session`: one connection over a source and a sink, and a drain of tasks behind it; `serve`: turns of the links of a door, one
+//!   after another, and a drain behind each; `came`: what a call at the door came to.
 //! - `opening`: the store, or why it can't be opened; `line`: the line that says so.
 //! - `laws`: events go on.
 //! - `status`: how a run ended, and its number.

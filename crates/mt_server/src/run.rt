@@ -1,5 +1,5 @@
 //! What the words ask for is done: a session, or connections.
-ghost use Rattle.std.specs.Prelude.{◌≡◌, ◌+◌, ◌⊎◌, ℕ, false, is_some, IfSome, map, string_bytes};
+ghost use Rattle.std.specs.Prelude.{◌≡◌, ◌+◌, ◌⊎◌, ℕ, [], false, is_some, IfSome, None, map, string_bytes};
 ghost use Rattle.std.specs.Option.{ForSome};
 ghost use Rattle.mt_base.specs.Counts.{Rose};
 ghost use Rattle.mt_disk.specs.CrashModel.{IsAtRest, LeavesOnly};
@@ -8,7 +8,7 @@ ghost use Rattle.mt_model.specs.State.{State};
 ghost use Rattle.mt_engine.specs.History.{Bytes, HasHistory, History};
 ghost use Rattle.mt_engine.specs.Opening.{IsReadable, IsRefused, KeepsLogs};
 ghost use Rattle.mt_engine.specs.declared.opening.Unreadable.{Unreadable};
-ghost use Rattle.mt_connection.specs.Account.{account_side, no_tasks, told_time};
+ghost use Rattle.mt_runner.specs.Account.{account_side, tasks_of, told_time};
 ghost use Rattle.mt_connection.specs.Sides.{joined, link_side, side_of};
 ghost use Rattle.mt_connection.specs.Transcript.{setting};
 ghost use Rattle.mt_settings.specs.Words.{settings_of};
@@ -18,7 +18,7 @@ ghost use Rattle.mt_server.specs.declared.status.ServeEnd.TheVariants.{NoLink};
 ghost use Rattle.mt_server.specs.Guarantees.{HasRun, HasServed, scene, shop};
 ghost use Rattle.mt_server.specs.Lines.{SaysLine, line_of, usage_line};
 ghost use Rattle.mt_server.specs.Events.{door_side, size_of};
-ghost use Rattle.mt_server.specs.Statuses.{ByBytes, ByDisk, ByDoor, ByLink, IsBegun, IsOfServe, IsOfSession, IsReadyAfter, IsSilent, IsUnopened, WantsServe, WantsSession};
+ghost use Rattle.mt_server.specs.Statuses.{ByBytes, ByDisk, ByDoor, ByLink, BySpawner, IsBegun, IsOfServe, IsOfSession, IsReadyAfter, IsSilent, IsUnopened, WantsServe, WantsSession};
 
 use crate::line::say;
 use crate::serve::serve;
@@ -26,16 +26,19 @@ use crate::session::session;
 use crate::status::Status;
 use mt_disk::Disk;
 use mt_edge::{Clock, Door, Sink, Source};
+use mt_runner::Runner;
 use mt_settings::{Mode, Settings, SettingsError};
+use mt_spawn::Spawner;
 use std::alloc::Global;
 
 // Reads the words, and does what they ask for.
-pub(crate) fn run<S: Source, K: Sink, D: Disk, C: Clock, W: Door>(
+pub(crate) fn run<S: Source, K: Sink, D: Disk, P: Spawner, C: Clock, W: Door>(
     alloc: Global,
     words: &[String],
     source: &mut S,
     sink: &mut K,
     disk: &mut D,
+    spawner: &mut P,
     clock: &mut C,
     door: &mut W,
 ) -> Status
@@ -43,38 +46,42 @@ pub(crate) fn run<S: Source, K: Sink, D: Disk, C: Clock, W: Door>(
     requires fit { ForSome (D.seen disk.old) Fit }
     requires door { W.over door.old + W.kept door.old ≡ W.taken door.old }
     requires none_kept { W.kept door.old ≡ 0 }
+    requires idle { (P.seen spawner.old).live ≡ [] }
+    requires free { P.held spawner.old ≡ None }
     ensures session { (settings : Settings) → WantsSession (map string_bytes words.now) settings → (base : State Bytes) (h : History) → ForSome (D.seen disk.old) (HasHistory base h) → (k : History) × (used : ℕ) ×
-        HasRun (setting (is_some (S.left source.old)) (is_some (D.seen disk.old)) (C.gives (C.rule clock.old)) settings.login settings.log_limit base)
+        HasRun (setting (is_some (S.left source.old)) (is_some (D.seen disk.old)) (C.gives (C.rule clock.old)) (P.gives (P.rule spawner.old)) settings.login settings.slots settings.log_limit base)
         (scene D.seen D.may_leave D.left_since disk.old (joined (link_side (S.left source.old) (K.got sink.old) (S.read_faults source.old) (K.write_faults sink.old))
-        (account_side h (size_of (D.seen disk.old)) (D.faults disk.old) (told_time (is_some (D.seen disk.old)) (D.moment disk.old)) (C.asked clock.old) no_tasks))) result
+        (account_side h (size_of (D.seen disk.old)) (D.faults disk.old) (told_time (is_some (D.seen disk.old)) (D.moment disk.old)) (C.asked clock.old) (tasks_of (P.seen spawner.old))))) result
         (scene D.seen D.may_leave D.left_since disk.new (joined (link_side (S.left source.new) (K.got sink.new) (S.read_faults source.new) (K.write_faults sink.new))
-        (account_side k used (D.faults disk.new) (told_time (is_some (D.seen disk.old)) (D.moment disk.new)) (C.asked clock.new) no_tasks))) }
+        (account_side k used (D.faults disk.new) (told_time (is_some (D.seen disk.old)) (D.moment disk.new)) (C.asked clock.new) (tasks_of (P.seen spawner.new))))) }
     ensures serve { (settings : Settings) (connections : ℕ) → WantsServe (map string_bytes words.now) settings connections → (base : State Bytes) (h : History) → ForSome (D.seen disk.old) (HasHistory base h) → (k : History) × (used : ℕ) ×
         HasServed (side_of W.Link.left W.Link.got W.Link.read_faults W.Link.write_faults) W.Link.stays
-        (setting false (is_some (D.seen disk.old)) (C.gives (C.rule clock.old)) settings.login settings.log_limit base) connections
-        (scene D.seen D.may_leave D.left_since disk.old (shop (account_side h (size_of (D.seen disk.old)) (D.faults disk.old) (told_time (is_some (D.seen disk.old)) (D.moment disk.old)) (C.asked clock.old) no_tasks)
+        (setting false (is_some (D.seen disk.old)) (C.gives (C.rule clock.old)) (P.gives (P.rule spawner.old)) settings.login settings.slots settings.log_limit base) connections
+        (scene D.seen D.may_leave D.left_since disk.old (shop (account_side h (size_of (D.seen disk.old)) (D.faults disk.old) (told_time (is_some (D.seen disk.old)) (D.moment disk.old)) (C.asked clock.old) (tasks_of (P.seen spawner.old)))
         (door_side (W.waiting door.old) (W.given_back door.old) (W.taken door.old) (W.over door.old) (W.door_faults door.old)))) result
-        (scene D.seen D.may_leave D.left_since disk.new (shop (account_side k used (D.faults disk.new) (told_time (is_some (D.seen disk.old)) (D.moment disk.new)) (C.asked clock.new) no_tasks)
+        (scene D.seen D.may_leave D.left_since disk.new (shop (account_side k used (D.faults disk.new) (told_time (is_some (D.seen disk.old)) (D.moment disk.new)) (C.asked clock.new) (tasks_of (P.seen spawner.new)))
         (door_side (W.waiting door.new) (W.given_back door.new) (W.taken door.new) (W.over door.new) (W.door_faults door.new)))) }
     ensures of_session { (settings : Settings) → WantsSession (map string_bytes words.now) settings → IsOfSession result × (door.new ≡ door.old) }
     ensures of_serve { (settings : Settings) (connections : ℕ) → WantsServe (map string_bytes words.now) settings connections → IsOfServe result × (source.new ≡ source.old) × (IsBegun result → sink.new ≡ sink.old) }
-    ensures words { (fault : UsageFault) → settings_of (map string_bytes words.now) ≡ Err fault → ((result ≡ Status.Usage) ⊎ (result ≡ Status.OutOfMemory)) × (source.new ≡ source.old) × (disk.new ≡ disk.old) × (door.new ≡ door.old) }
+    ensures words { (fault : UsageFault) → settings_of (map string_bytes words.now) ≡ Err fault → ((result ≡ Status.Usage) ⊎ (result ≡ Status.OutOfMemory)) × (source.new ≡ source.old) × (disk.new ≡ disk.old) × (door.new ≡ door.old) × (spawner.new ≡ spawner.old) }
     ensures usage { result ≡ Status.Usage → ((fault : UsageFault) × (settings_of (map string_bytes words.now) ≡ Err fault)) × (source.new ≡ source.old) × (disk.new ≡ disk.old) × (door.new ≡ door.old)
-        × SaysLine usage_line (K.got sink.old) (K.got sink.new) (K.write_faults sink.old) (K.write_faults sink.new) }
+        × (spawner.new ≡ spawner.old) × SaysLine usage_line (K.got sink.old) (K.got sink.new) (K.write_faults sink.old) (K.write_faults sink.new) }
     ensures begun { IsBegun result → ForSome (D.seen disk.old) IsReadable }
-    ensures unopened { IsUnopened result → (source.new ≡ source.old) × (door.new ≡ door.old) × ForSome (D.seen disk.old) (λ files. LeavesOnly D.moment D.left_since disk.old disk.new (SameLog files)) }
+    ensures unopened { IsUnopened result → (source.new ≡ source.old) × (door.new ≡ door.old) × (spawner.new ≡ spawner.old) × ForSome (D.seen disk.old) (λ files. LeavesOnly D.moment D.left_since disk.old disk.new (SameLog files)) }
     ensures silent { IsSilent result → sink.new ≡ sink.old }
     ensures refused { (why : Unreadable) → result ≡ Status.UnreadableLog why → SaysLine (line_of why) (K.got sink.old) (K.got sink.new) (K.write_faults sink.old) (K.write_faults sink.new)
         × ForSome (D.seen disk.old) (λ files. IsRefused files why × KeepsLogs D.seen D.may_leave disk.new files) }
     ensures by_bytes { IfSome (S.left source.old) (λ bytes. ByBytes bytes result) }
     ensures by_link { ByLink result (S.read_faults source.old) (K.write_faults sink.old) (S.read_faults source.new) (K.write_faults sink.new) }
     ensures by_disk { ByDisk result (D.faults disk.old) (D.faults disk.new) }
+    ensures by_spawner { BySpawner result (P.seen spawner.old).faults (P.seen spawner.new).faults }
+    ensures no_child_left { ((P.seen spawner.new).live ≡ []) × (P.held spawner.new ≡ None) }
     ensures rest { IsReadyAfter result (is_some (D.seen disk.old)) (IsAtRest D.seen D.may_leave disk.new × ForSome (D.seen disk.new) Fit) }
     ensures by_door { (settings : Settings) (connections : ℕ) → WantsServe (map string_bytes words.now) settings connections → ByDoor result connections (W.taken door.old) (W.door_faults door.old) (W.taken door.new) (W.door_faults door.new) }
     ensures no_link { result ≡ Status.Serve NoLink → Rose (W.door_faults door.old) (W.door_faults door.new) }
     ensures source_stays { S.source_stays source.old source.new }
     ensures sink_stays { K.sink_stays sink.old sink.new }
-    ensures rule { C.rule clock.new ≡ C.rule clock.old }
+    ensures rule { (C.rule clock.new ≡ C.rule clock.old) × (P.rule spawner.new ≡ P.rule spawner.old) }
 {
     let settings = match Settings::read(alloc, words) {
         Ok(settings) => settings,
@@ -86,10 +93,33 @@ pub(crate) fn run<S: Source, K: Sink, D: Disk, C: Clock, W: Door>(
     };
     let login = settings.login.as_str();
     let limit = settings.log_limit;
+    let mut runner = match Runner::new(alloc, login, settings.slots) {
+        Ok(runner) => runner,
+        Err(_) => return Status::OutOfMemory,
+    };
     match &settings.mode {
-        Mode::Session => session(alloc, login, limit, source, sink, disk, clock),
-        Mode::Serve { connections, .. } => {
-            serve(alloc, login, limit, *connections, sink, disk, clock, door)
-        }
+        Mode::Session => session(
+            alloc,
+            login,
+            limit,
+            &mut runner,
+            source,
+            sink,
+            disk,
+            spawner,
+            clock,
+        ),
+        Mode::Serve { connections, .. } => serve(
+            alloc,
+            login,
+            limit,
+            *connections,
+            &mut runner,
+            sink,
+            disk,
+            spawner,
+            clock,
+            door,
+        ),
     }
 }

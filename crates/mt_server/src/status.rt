@@ -4,17 +4,24 @@ ghost use Rattle.mt_server.specs.Statuses.{code_of};
 
 use mt_connection::ConnectionEnd;
 use mt_engine::Unreadable;
+use mt_runner::Turn;
 
 /// How the serving of links ended.
 #[derive(Clone, Copy, Debug, PartialEq, Eq)]
 pub enum ServeEnd {
-    /// 0: as many links as were asked for were taken, and each was served until it was over.
+    /// 0: as many links as were asked for were taken, each was served until it was over, and no task is left.
     Served,
+    /// 6: the same, but tasks are left, since their spawner failed, and counted it.
+    TasksFailed,
+    /// 7: the same, but tasks are left, which still run or came one behind the other without an end.
+    TasksPending,
     /// 10: the door failed before that, and counted it.
     NoLink,
-    /// 5: the disk failed, and counted it. The link was given back.
+    /// 9: a command that a turn had to add has no room in the log.
+    LogFull,
+    /// 5: the disk failed, and counted it. Each link was given back.
     Disk,
-    /// 8: memory was wanted. The link was given back.
+    /// 8: memory was wanted. Each link was given back.
     Memory,
     /// 8: 2 ^ 64 - 1 times a link had its turn or the door was woken, and not all links are over.
     Spent,
@@ -31,9 +38,11 @@ pub enum Status {
     OpeningFault,
     /// 8: memory was wanted before a message was read.
     OutOfMemory,
-    /// The one connection of a session ended so: 0, 3, 4, 5, 8, 11, 12 or 13.
+    /// The one connection of a session ended so, and not well: 3, 4, 5, 8, 9, 11, 12 or 13.
     Session(ConnectionEnd),
-    /// Links were served: 0, 5, 8 or 10.
+    /// It ended well, and then the tasks that were left were run, which ended so: 0, 5, 6, 7, 8 or 9.
+    Drained(Turn),
+    /// Links were served: 0, 5, 6, 7, 8, 9 or 10.
     Serve(ServeEnd),
 }
 
@@ -48,6 +57,7 @@ impl Status {
             Status::OpeningFault => 5,
             Status::OutOfMemory => 8,
             Status::Session(ConnectionEnd::Ended) => 0,
+            Status::Session(ConnectionEnd::Full) => 9,
             Status::Session(ConnectionEnd::SourceFault) => 3,
             Status::Session(ConnectionEnd::SinkFault) => 4,
             Status::Session(ConnectionEnd::Disk) => 5,
@@ -55,7 +65,18 @@ impl Status {
             Status::Session(ConnectionEnd::Truncated) => 11,
             Status::Session(ConnectionEnd::Refused) => 12,
             Status::Session(ConnectionEnd::Many) => 13,
+            Status::Drained(Turn::Idle) => 0,
+            Status::Drained(Turn::SpawnFault) => 6,
+            Status::Drained(Turn::NotYet) => 7,
+            Status::Drained(Turn::Closed(_)) => 7,
+            Status::Drained(Turn::Committed(_)) => 7,
+            Status::Drained(Turn::Full) => 9,
+            Status::Drained(Turn::Disk) => 5,
+            Status::Drained(Turn::Memory) => 8,
             Status::Serve(ServeEnd::Served) => 0,
+            Status::Serve(ServeEnd::TasksFailed) => 6,
+            Status::Serve(ServeEnd::TasksPending) => 7,
+            Status::Serve(ServeEnd::LogFull) => 9,
             Status::Serve(ServeEnd::Disk) => 5,
             Status::Serve(ServeEnd::Memory) => 8,
             Status::Serve(ServeEnd::NoLink) => 10,

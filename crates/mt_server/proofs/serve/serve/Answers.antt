@@ -1,54 +1,92 @@
 -- The links are served over the history at entry, or the store was not opened and the door stands as it was.
-use Rattle.std.proofs.Common.{refl, ap, sym, ◌∙◌, arith}
+use Rattle.std.proofs.Common.{Bool, false, refl, ap, ◌∙◌, arith}
 use Rattle.std.specs.Prelude.{Err, is_some}
 use Rattle.mt_disk.proofs.Moments.{leaves_now}
-use Rattle.mt_engine.specs.Current.{IsBetween}
+use Rattle.mt_engine.specs.Current.{IsBetween, told_size}
 use Rattle.mt_log.specs.LogImage.{SameLog}
+use Rattle.mt_runner.specs.Account.{account_side, tasks_of, told_time}
 use Rattle.mt_connection.proofs.Crashes.{between_first, told_later}
-use Rattle.mt_server.proofs.Connecting.{leaves, leaves_only, size_told}
+use Rattle.mt_connection.specs.Sides.{side_of}
+use Rattle.mt_connection.specs.Transcript.{Setting, setting}
+use Rattle.mt_server.specs.Events.{door_side, size_of}
+use Rattle.mt_server.specs.Guarantees.{IsOpened, IsStopped, shop}
+use Rattle.mt_server.specs.Visiting.{ServesLinks}
+use Rattle.mt_server.specs.declared.status.Status.TheVariants as status
+use Rattle.mt_server.proofs.Connecting.{is_stood, leaves, size_told, sized}
 use Rattle.mt_server.proofs.Following.{passed_nothing}
 use Rattle.mt_server.proofs.Opened.{crash_from_entry, kept_size, opening_holds, over_opened, some_files}
-use Rattle.mt_server.proofs.Serves.{disk_later, earlier_serve, not_begun, said_why, served_here, unopened_serve, unserved_serve}
-use Rattle.mt_server.proofs.Settling.{ready_refused, ready_serve, ready_unopened}
+use Rattle.mt_server.proofs.Overs.{in_setting, timed}
+use Rattle.mt_server.proofs.Serves.{has_served, not_begun, said_why, unopened_serve, unserved_serve}
+use Rattle.mt_server.proofs.Settling.{ready_begun, ready_open, ready_refused, ready_unopened}
+use Rattle.mt_server.proofs.Unopened.{later_disk, later_spawner, unopened_spawner}
 use Rattle.mt_server.proofs.serve.serve.Goals as goal
 
 pub returns-in-Ok-clause-served : goal.returns-in-Ok-clause-served
 returns-in-Ok-clause-served g c base h has =
     let d = g.D.Disk in
+    let p = g.P.Spawner in
+    let k = g.C.Clock in
+    let link = g.W.Link in
+    let side = side_of link.Source.left link.Sink.got link.Source.read_faults link.Sink.write_faults in
     let old = c.args.disk.now in
     let mid = c.open_store.new.disk in
-    let new = c.serve_links.new.disk in
+    let w = c.serve_links-end in
+    let new = w.new.disk in
+    let knows = is_some (d.seen old) in
     let ready = c.in-Ok.ensures.ready in
     let tells = c.in-Ok.ensures.tells in
     let opening = c.open_store.ensures.any_moment in
-    let run = c.serve_links.ensures.served base h (over_opened _ _ _ base h tells c.in-Ok.ensures.current has) in
+    let x = w.ensures.served base h (over_opened _ _ _ base h tells c.in-Ok.ensures.current has) in
+    let tasks = tasks_of (p.seen c.args.spawner.now) in
+    let before = account_side h (told_size (d.seen mid) c.in-Ok.engine) (d.faults mid) (d.moment mid) (k.asked c.args.clock.now) tasks in
+    let behind = account_side x.0 (told_size (d.seen new) w.new.engine) (d.faults new) (d.moment new) (k.asked w.new.clock) (tasks_of (p.seen w.new.spawner)) in
+    let door = door_side (g.W.Door.waiting c.args.door.now) (g.W.Door.given_back c.args.door.now) (g.W.Door.taken c.args.door.now) (g.W.Door.over c.args.door.now) (g.W.Door.door_faults c.args.door.now) in
+    let door2 = door_side (g.W.Door.waiting w.new.door) (g.W.Door.given_back w.new.door) (g.W.Door.taken w.new.door) (g.W.Door.over w.new.door) (g.W.Door.door_faults w.new.door) in
     let same_size = size_told d.seen d.may_leave mid c.in-Ok.engine ready.stands ready.is_open
     ∙ kept_size _ _ tells (λ files is now now_is. leaves_now d.moment d.left_since d.may_leave _ _ (SameLog files) (opening files is) (g.met.D.Disk.counts_now mid) now (g.met.D.Disk.seen_is_left mid now now_is)) in
-    let here = served_here _ _ _ c.args.login.now base _ _ _ _ _ _ tells c.in-Ok.ensures.limit same_size _ _ _ _ _ _ _ h _ _ _ _ _ run.0 _ _ _ _ _ run.1 in (
-      run.0,
+    let s = setting false knows (k.gives (k.rule c.args.clock.now)) (p.gives (p.rule c.args.spawner.now)) c.args.login.now c.args.runner.now.slots c.args.limit base in
+    let here = in_setting k.gives p.gives base (λ (b : Bool) (s : Setting). ServesLinks side link.Both.stays s (d.left_since new) (d.may_leave new) c.args.connections (shop (timed b before) door) w.result (shop (timed b behind) door2))
+    knows (is_some (d.seen mid)) (k.rule c.args.clock.now) (k.rule c.args.clock.now) (p.rule c.args.spawner.now) (p.rule c.args.spawner.now) c.args.login.now c.args.login.now c.args.runner.now.slots c.args.runner.now.slots c.args.limit c.in-Ok.engine.log.limit false
+    tells refl refl refl refl c.in-Ok.ensures.limit x.1 in
+    let opened : IsOpened (account_side h (size_of (d.seen old)) (d.faults old) (told_time knows (d.moment old)) (k.asked c.args.clock.now) tasks) (timed knows before) = record {
+      history = refl;
+      used = same_size;
+      tasks = refl;
+      asked = refl;
+      counts = record {
+        disk = c.open_store.ensures.faults;
+        time = told_later knows (d.moment old) (d.moment mid) (λ knows. let there = some_files (d.seen old) knows in (opening there.0 there.1).later);
+        asked = omega arith;
+        spawn = omega arith;
+        waits = omega arith;
+        company = omega arith;
+      };
+    } in
+    let stopped : IsStopped (timed knows behind) (timed knows (account_side x.0 (told_size (d.seen new) w.new.engine) (d.faults new) (d.moment new) (k.asked w.new.clock) (tasks_of (p.seen c.stop.new.spawner)))) =
+    record { history = refl; used = refl; disk_faults = refl; time = refl; asked = refl; waits = c.stop.ensures.counts.waits; company = c.stop.ensures.counts.company; faults = c.stop.ensures.faults } in (
+      x.0,
       _,
-      earlier_serve _ _ _ _ _ _ _ _
-          (record {
-            history = refl;
-            used = refl;
-            tasks = refl;
-            asked = refl;
-            counts = record {
-              disk = c.open_store.ensures.faults;
-              time = told_later (is_some (d.seen old)) (d.moment old) (d.moment mid) (λ knows. let there = some_files (d.seen old) knows in (opening there.0 there.1).later);
-              asked = omega arith;
-              spawn = omega arith;
-              waits = omega arith;
-              company = omega arith;
-            };
-          })
-          refl
-          (leaves d.moment d.left_since old new (IsBetween base h run.0) _
-          (λ knows.
-          let there = some_files (d.seen old) knows in
-          crash_from_entry d.may_leave d.moment d.left_since old mid new there.0 base h run.0 (has there.0 there.1) (opening there.0 there.1) (leaves_only d.moment d.left_since mid new (IsBetween base h run.0) _ knows (here.holds.crash_prefix knows)) (λ c has. between_first base h run.0 c (here.holds.added, sym here.holds.grew) has)))
-          here,
+      has_served side link.Both.stays s (λ h used asked t may. may) c.args.connections _ (timed knows before) here.events (timed knows behind) w.result _ opened here.led stopped here.ends here.links
+          (λ knows. let there = some_files (d.seen old) knows in is_stood base h there.0 (has there.0 there.1))
+          here.durable
+          (λ knows. sized (status.Serve w.result) w.new.engine.log.closed _ _ tt w.ensures.live (size_told d.seen d.may_leave new w.new.engine w.ensures.goes_on.stands))
+          (leaves d.moment d.left_since old new (IsBetween base h x.0) _ (λ knows. let there = some_files (d.seen old) knows in crash_from_entry d.may_leave d.moment d.left_since old mid new there.0 base h x.0 (has there.0 there.1) (opening there.0 there.1) (x.2.any_moment (tells ∙ knows)) (λ c has. between_first base h x.0 c x.2.front has))),
     )
+
+pub returns-in-Ok-clause-by_disk : goal.returns-in-Ok-clause-by_disk
+returns-in-Ok-clause-by_disk g c = later_disk (status.Serve c.serve_links-end.result) _ _ _ c.open_store.ensures.faults c.serve_links-end.ensures.by_disk
+
+pub returns-in-Ok-clause-by_spawner : goal.returns-in-Ok-clause-by_spawner
+returns-in-Ok-clause-by_spawner g c = later_spawner (status.Serve c.serve_links-end.result) _ _ _ c.serve_links-end.ensures.by_spawner c.stop.ensures.faults
+
+pub returns-in-Ok-clause-begun : goal.returns-in-Ok-clause-begun
+returns-in-Ok-clause-begun g c begun = c.in-Ok.ensures.opened
+
+pub returns-in-Ok-clause-rest : goal.returns-in-Ok-clause-rest
+returns-in-Ok-clause-rest g c =
+    let d = g.D.Disk in
+    let w = c.serve_links-end in
+    ready_begun (status.Serve w.result) w.new.engine.log.closed _ _ tt w.ensures.live (λ is_open. ready_open d.seen d.may_leave w.new.disk w.new.engine.log w.ensures.goes_on.stands is_open)
 
 pub returns-in-Err-clause-served : goal.returns-in-Err-clause-served
 returns-in-Err-clause-served g c base h has =
@@ -59,7 +97,7 @@ returns-in-Err-clause-served g c base h has =
       h,
       _,
       unserved_serve _ _ _ _ _ _ c.in-Err.status closed.0 of (passed_nothing _) refl refl
-          (opening_holds d.seen d.may_leave d.moment d.left_since c.args.disk.now new (g.met.D.Disk.counts_now new) (g.met.D.Disk.seen_is_left new) _ h _ _ _ c.in-Err.status _ _ _ _ refl has c.open_store.ensures.any_moment closed.0 closed.1 c.open_store.ensures.faults
+          (opening_holds d.seen d.may_leave d.moment d.left_since c.args.disk.now new (g.met.D.Disk.counts_now new) (g.met.D.Disk.seen_is_left new) _ h _ _ _ _ c.in-Err.status _ _ _ _ refl has c.open_store.ensures.any_moment closed.0 closed.1 c.open_store.ensures.faults
           (λ why is files seen_is. (c.open_store.ensures.refused why (c.in-Err.is ∙ ap (λ e. Err e) is) files seen_is).1)),
     )
 
@@ -70,7 +108,10 @@ pub returns-in-Err-clause-begun : goal.returns-in-Err-clause-begun
 returns-in-Err-clause-begun g c begun = absurd (not_begun c.in-Err.status c.in-Err.ensures.unopened.0 begun)
 
 pub returns-in-Err-clause-unopened : goal.returns-in-Err-clause-unopened
-returns-in-Err-clause-unopened g c is = (refl, c.open_store.ensures.any_moment)
+returns-in-Err-clause-unopened g c is = (refl, refl, c.open_store.ensures.any_moment)
+
+pub returns-in-Err-clause-silent : goal.returns-in-Err-clause-silent
+returns-in-Err-clause-silent g c = c.in-Err.ensures.silent
 
 pub returns-in-Err-clause-refused : goal.returns-in-Err-clause-refused
 returns-in-Err-clause-refused g c why is = (said_why c.in-Err.status _ _ _ _ _ _ c.in-Err.ensures.unopened.1 why is, c.open_store.ensures.refused why (c.in-Err.is ∙ ap (λ e. Err e) is))
@@ -78,17 +119,11 @@ returns-in-Err-clause-refused g c why is = (said_why c.in-Err.status _ _ _ _ _ _
 pub returns-in-Err-clause-by_disk : goal.returns-in-Err-clause-by_disk
 returns-in-Err-clause-by_disk g c = (unopened_serve c.in-Err.status _ _ _ _ _ _ c.in-Err.ensures.unopened.1).1
 
+pub returns-in-Err-clause-by_spawner : goal.returns-in-Err-clause-by_spawner
+returns-in-Err-clause-by_spawner g c = unopened_spawner c.in-Err.status _ _ c.in-Err.ensures.unopened.0
+
 pub returns-in-Err-clause-by_door : goal.returns-in-Err-clause-by_door
 returns-in-Err-clause-by_door g c = (unopened_serve c.in-Err.status _ _ _ _ _ _ c.in-Err.ensures.unopened.1).2 _ _ _ _ _
-
-pub returns-in-Ok-clause-by_disk : goal.returns-in-Ok-clause-by_disk
-returns-in-Ok-clause-by_disk g c = disk_later c.serve_links.result _ _ _ c.open_store.ensures.faults c.serve_links.ensures.by_disk
-
-pub returns-in-Ok-clause-begun : goal.returns-in-Ok-clause-begun
-returns-in-Ok-clause-begun g c begun = c.in-Ok.ensures.opened
-
-pub returns-in-Ok-clause-rest : goal.returns-in-Ok-clause-rest
-returns-in-Ok-clause-rest g c = ready_serve c.serve_links.result _ _ c.serve_links.ensures.rest
 
 pub returns-in-Err-clause-rest : goal.returns-in-Err-clause-rest
 returns-in-Err-clause-rest g c =

@@ -1,18 +1,26 @@
 -- The events so far, and then one more, or the end.
-use Rattle.std.proofs.Common.{◌≡◌, ◌<◌, ◌∷◌, [], ◌++◌, refl, sym, subst, ◌∙◌, arith}
+use Rattle.std.proofs.Common.{◌≡◌, ◌<◌, Bool, false, ◌∷◌, [], ◌++◌, refl, sym, subst, ◌∙◌, arith}
+use Rattle.std.specs.Prelude.{is_some}
 use Rattle.std.proofs.lemmas.Bool.{ltb-true}
-use Rattle.std.proofs.lemmas.Option.{none-some}
-use Rattle.mt_engine.specs.Current.{IsBetween}
+use Rattle.mt_engine.specs.Current.{told_size}
+use Rattle.mt_runner.specs.Account.{account_side, tasks_of, told_time}
+use Rattle.mt_runner.proofs.Drains.{goes_on_more}
+use Rattle.mt_connection.specs.Sides.{side_of}
+use Rattle.mt_connection.specs.Transcript.{Setting, setting}
+use Rattle.mt_connection.proofs.Completeness.{some_over}
 use Rattle.mt_connection.proofs.Crashes.{images_open, moves_more, moves_none}
-use Rattle.mt_server.specs.Events.{Had, Woke}
-use Rattle.mt_server.specs.declared.came.Came.TheVariants as came
-use Rattle.mt_server.proofs.Connecting.{leaves, size_told}
-use Rattle.mt_server.proofs.Going.{counted_had, counted_woke, going_had, going_nothing, going_same, going_woke, served_broke, served_open}
+use Rattle.mt_server.specs.Events.{door_side}
+use Rattle.mt_server.specs.Guarantees.{shop}
+use Rattle.mt_server.specs.Statuses.{ByDisk, ByDoor, BySpawner, StaysOpen}
+use Rattle.mt_server.specs.Visiting.{Happens, ServesLinks}
+use Rattle.mt_server.specs.declared.came.Happened.TheVariants as happened
+use Rattle.mt_server.specs.declared.status.ServeEnd.{ServeEnd}
+use Rattle.mt_server.specs.declared.status.Status.TheVariants as status
+use Rattle.mt_server.proofs.Going.{break_is, broke_door, broke_spawner, counted_more, going_event, going_nothing, going_same, last_is, no_disk, no_link_no_disk, served_ends, serves_broke, serves_open, spent_no_disk}
 use Rattle.mt_server.proofs.Later.{goes_by}
-use Rattle.mt_server.proofs.Overs.{no_break, same_here, visit_here}
-use Rattle.mt_server.proofs.Turns.{within}
+use Rattle.mt_server.proofs.Overs.{in_setting, timed}
+use Rattle.mt_server.proofs.Turns.{broke_disk, broke_open, one_at_most, served_disk_by, served_door_by, served_open_by, served_spawn_by, within}
 use Rattle.mt_server.proofs.serve.serve_links.Goals as goal
-use Rattle.mt_server.proofs.serve.serve_links.Goals.{in-Had+in_default, in-Woke}
 
 pub events-init : goal.events-init
 events-init g c =
@@ -27,91 +35,305 @@ events-init g c =
         moves_none d.seen d.may_leave d.moment d.left_since c.args.disk.now c.args.engine.now base h (g.met.D.Disk.only_now c.args.disk.now) ready.stands ready.is_open over,
       );
       ready = ready;
+      at_work = c.requires.at_work;
       told = refl;
       limit = refl;
+      version = refl;
       rule = refl;
+      children = refl;
+      login = c.requires.login;
+      slots = refl;
       counted = omega arith;
+      spawned = omega arith;
       few = omega arith;
+      left = c.requires.some;
       taken = omega arith;
       over = omega arith;
       failed = omega arith;
       back = c.requires.door;
     }
 
+pub event-requires-clause-ready : goal.event-requires-clause-ready
+event-requires-clause-ready g c = c.events.invariant.ready
+
+pub event-requires-clause-at_work : goal.event-requires-clause-at_work
+event-requires-clause-at_work g c = c.events.invariant.at_work
+
+pub event-requires-clause-login : goal.event-requires-clause-login
+event-requires-clause-login g c = c.events.invariant.login
+
+pub event-requires-clause-back : goal.event-requires-clause-back
+event-requires-clause-back g c = c.events.invariant.back
+
 pub events-preserved : goal.events-preserved
 events-preserved g c =
-    let d = g.D.Disk in
     let before = c.events.invariant in
-    let went = c.visit.ensures.goes_on in
-    elim c.match-visit.branch [
-      | in-Had+in_default w ↦
-          let none = sym w.end_breaks.ensures ∙ w.in_default.is in
-          let no = no_break w.in-Had.end none in
-          let is_open = w.in-Had.ensures.live no.0 no.1 in
-          let counts = w.in-Had.ensures.counts in
-          let taken_is = w.taken-is ∙ w.add-taken.ensures in
-          let over_is = w.over-is ∙ w.add-over.ensures in
-          record {
-            so_far = λ base h over.
-                let so_far = before.so_far base h over in
-                let turn = w.in-Had.ensures.visit base so_far.0 (so_far.4.over before.ready.is_open) in
-                let here = visit_here _ _ g.C.Clock.gives c.args.login.now base _ _ _ _ _ _ before.told before.rule before.limit _ _ so_far.0 _ _ _ _ _ (came.Had w.in-Had.first w.in-Had.last w.in-Had.end) turn.0 _ _ _ _ _ turn.1 in (
-                  turn.0,
-                  so_far.1 ++ Had here.0 ∷ [],
-                  going_had _ _ _ _ _ _ so_far.1 _ here.0 w.in-Had.end _ (goes_by d.moment d.left_since c.events.disk c.visit.new.disk base so_far.0 turn.0 _ (λ knows. turn.2.any_moment (before.told ∙ knows))) so_far.2 here.3 none here.4 here.5 turn.2.front,
-                  counted_had so_far.1 here.0 w.in-Had.first w.in-Had.last _ _ _ _ _ so_far.3 here.1 here.2 taken_is over_is,
-                  moves_more d.seen d.moment d.left_since _ _ _ _ _ base h so_far.0 turn.0 before.told so_far.4 turn.2,
-                );
-            ready = record { stands = went.stands; is_open = is_open; version = went.stays.version is_open ∙ before.ready.version; serves = went.serves };
-            told = went.stays.told is_open ∙ before.told;
-            limit = went.stays.limit is_open ∙ before.limit;
-            rule = c.visit.ensures.rule ∙ before.rule;
-            counted = let more = went.stays.faults in omega (arith, before.counted, more);
-            few = within w.in-Had.first _ c.events.taken _ c.args.connections before.few taken_is w.in-Had.ensures.asked_for (ltb-true c.events.taken c.args.connections);
-            taken = omega (arith, before.taken, counts.0, taken_is);
-            over = omega (arith, before.over, counts.1, over_is);
-            failed = omega (arith, before.failed, counts.2);
-            back = c.visit.ensures.back;
-          }
-      | in-Woke w ↦
-          let is_open = w.in-Woke.ensures.live (none-some _) (none-some _) in
-          let counts = w.in-Woke.ensures.counts in
-          record {
-            so_far = λ base h over.
-                let so_far = before.so_far base h over in
-                let turn = w.in-Woke.ensures.visit base so_far.0 (so_far.4.over before.ready.is_open) in (
-                  turn.0,
-                  so_far.1 ++ Woke ∷ [],
-                  going_woke _ _ _ _ _ _ so_far.1 _ _ (goes_by d.moment d.left_since c.events.disk c.visit.new.disk base so_far.0 turn.0 _ (λ knows. turn.2.any_moment (before.told ∙ knows))) so_far.2 (same_here _ _ before.told so_far.0 _ _ _ _ turn.0 _ _ _ _ turn.1.0) turn.1.1,
-                  counted_woke so_far.1 _ _ _ _ _ so_far.3 w.taken-is w.over-is,
-                  moves_more d.seen d.moment d.left_since _ _ _ _ _ base h so_far.0 turn.0 before.told so_far.4 turn.2,
-                );
-            ready = record { stands = went.stands; is_open = is_open; version = went.stays.version is_open ∙ before.ready.version; serves = went.serves };
-            told = went.stays.told is_open ∙ before.told;
-            limit = went.stays.limit is_open ∙ before.limit;
-            rule = c.visit.ensures.rule ∙ before.rule;
-            counted = let more = went.stays.faults in omega (arith, before.counted, more);
-            few = let same = w.taken-is in omega (arith, same, before.few);
-            taken = let same = w.taken-is in omega (arith, same, before.taken, counts.0);
-            over = let same = w.over-is in omega (arith, same, before.over, counts.1);
-            failed = omega (arith, before.failed, counts.2);
-            back = c.visit.ensures.back;
-          }
-    ]
+    let w = c.in-Went in
+    let went = c.event.ensures.goes_on in
+    let is_open = w.ensures.live in
+    let counts = w.ensures.counts in
+    let taken_is = c.add-taken.ensures in
+    let over_is = c.add-over.ensures in
+    record {
+      so_far = λ base h over.
+          let d = g.D.Disk in
+          let p = g.P.Spawner in
+          let k = g.C.Clock in
+          let link = g.W.Link in
+          let side = side_of link.Source.left link.Sink.got link.Source.read_faults link.Sink.write_faults in
+          let before = c.events.invariant in
+          let old = c.args.disk.now in
+          let mid = c.events.disk in
+          let e = c.event in
+          let new = e.new.disk in
+          let knows = is_some (d.seen old) in
+          let so_far = before.so_far base h over in
+          let turn = c.in-Went.ensures.happens base so_far.0 (so_far.4.over before.ready.is_open) in
+          let first = account_side h (told_size (d.seen old) c.args.engine.now) (d.faults old) (told_time knows (d.moment old)) (k.asked c.args.clock.now) (tasks_of (p.seen c.args.spawner.now)) in
+          let at = account_side so_far.0 (told_size (d.seen mid) c.events.engine) (d.faults mid) (d.moment mid) (k.asked c.events.clock) (tasks_of (p.seen c.events.spawner)) in
+          let behind = account_side turn.0 (told_size (d.seen new) e.new.engine) (d.faults new) (d.moment new) (k.asked e.new.clock) (tasks_of (p.seen e.new.spawner)) in
+          let door = door_side (g.W.Door.waiting c.args.door.now) (g.W.Door.given_back c.args.door.now) (g.W.Door.taken c.args.door.now) (g.W.Door.over c.args.door.now) (g.W.Door.door_faults c.args.door.now) in
+          let door1 = door_side (g.W.Door.waiting c.events.door) (g.W.Door.given_back c.events.door) (g.W.Door.taken c.events.door) (g.W.Door.over c.events.door) (g.W.Door.door_faults c.events.door) in
+          let door2 = door_side (g.W.Door.waiting e.new.door) (g.W.Door.given_back e.new.door) (g.W.Door.taken e.new.door) (g.W.Door.over e.new.door) (g.W.Door.door_faults e.new.door) in
+          let s = setting false knows (k.gives (k.rule c.args.clock.now)) (p.gives (p.rule c.args.spawner.now)) c.args.login.now c.args.runner.now.slots c.args.engine.now.log.limit base in
+          let happens = in_setting k.gives p.gives base (λ (b : Bool) (s : Setting). Happens side link.Both.stays s (d.left_since new) (d.may_leave new) (shop (timed b at) door1) (happened.Went c.in-Went.first c.in-Went.one c.in-Went.last) (shop (timed b behind) door2))
+          knows (is_some (d.seen mid)) (k.rule c.args.clock.now) (k.rule c.events.clock) (p.rule c.args.spawner.now) (p.rule c.events.spawner) c.args.login.now c.args.login.now c.args.runner.now.slots c.events.runner.slots
+          c.args.engine.now.log.limit c.events.engine.log.limit false before.told before.rule before.children refl before.slots before.limit turn.1 in
+          let moves = moves_more d.seen d.moment d.left_since old mid new c.events.engine e.new.engine base h so_far.0 turn.0 before.told so_far.4 turn.2 in
+          let carries = goes_by d.moment d.left_since mid new base so_far.0 turn.0 knows (λ is. turn.2.any_moment (before.told ∙ is)) in (
+            turn.0,
+            so_far.1 ++ happens.0 ∷ [],
+            going_event side link.Both.stays s (d.left_since mid) (d.left_since new) (shop first door) so_far.1 (shop (timed knows at) door1) happens.0 (shop (timed knows behind) door2) carries so_far.2 happens.2 happens.6 happens.7,
+            counted_more so_far.1 happens.0 c.in-Went.first c.in-Went.one _ _ _ _ _ so_far.3 happens.4 happens.5 c.add-taken.ensures c.add-over.ensures,
+            moves,
+          );
+      ready = record { stands = went.stands; is_open = is_open; version = went.stays.version is_open ∙ before.ready.version; serves = went.serves };
+      at_work = c.event.ensures.at_work;
+      told = went.stays.told is_open ∙ before.told;
+      limit = went.stays.limit is_open ∙ before.limit;
+      version = went.stays.version is_open ∙ before.version;
+      rule = c.event.ensures.rule.0 ∙ before.rule;
+      children = c.event.ensures.rule.1 ∙ before.children;
+      login = c.event.ensures.same.0 ∙ before.login;
+      slots = c.event.ensures.same.1 ∙ before.slots;
+      counted = let more = went.stays.faults in omega (arith, before.counted, more);
+      spawned = let more = c.event.ensures.spawn_faults in omega (arith, before.spawned, more);
+      few = within w.first _ c.events.taken _ c.args.connections before.few taken_is w.ensures.asked_for (ltb-true c.events.taken c.args.connections);
+      left = let small = one_at_most w.one in omega (arith, before.left, over_is, small);
+      taken = omega (arith, before.taken, counts.0, taken_is);
+      over = omega (arith, before.over, counts.1, over_is);
+      failed = omega (arith, before.failed, counts.2);
+      back = c.event.ensures.back;
+    }
 
 pub returns-then-over-connections-clause-served : goal.returns-then-over-connections-clause-served
 returns-then-over-connections-clause-served g c base h over =
     let d = g.D.Disk in
+    let p = g.P.Spawner in
+    let k = g.C.Clock in
+    let link = g.W.Link in
+    let side = side_of link.Source.left link.Sink.got link.Source.read_faults link.Sink.write_faults in
     let before = c.events.invariant in
+    let old = c.args.disk.now in
+    let mid = c.events.disk in
+    let e = c.event in
+    let new = e.new.disk in
+    let knows = is_some (d.seen old) in
     let so_far = before.so_far base h over in
-    let over_all : c.events.over ≡ c.args.connections = omega arith in
-    let taken_all : c.events.taken ≡ c.args.connections = omega (arith, over_all, before.few, before.taken, before.over, before.back, c.requires.door, c.requires.none_kept) in (
-      so_far.0,
-      served_open _ _ _ _ _ so_far.1 _ _ so_far.2 (so_far.2.none, so_far.3.firsts_is ∙ taken_all, so_far.3.lasts_is ∙ over_all)
-          (λ knows. images_open d.seen d.may_leave c.events.disk c.events.engine base so_far.0 before.ready.stands before.ready.is_open (so_far.4.over before.ready.is_open) (before.told ∙ knows))
-          (leaves d.moment d.left_since c.args.disk.now c.events.disk (IsBetween base h so_far.0) _ so_far.4.any_moment)
-          (size_told d.seen d.may_leave c.events.disk c.events.engine before.ready.stands before.ready.is_open) (λ e. cc) (λ e. cc),
+    let turn = c.in-Went.ensures.happens base so_far.0 (so_far.4.over before.ready.is_open) in
+    let first = account_side h (told_size (d.seen old) c.args.engine.now) (d.faults old) (told_time knows (d.moment old)) (k.asked c.args.clock.now) (tasks_of (p.seen c.args.spawner.now)) in
+    let at = account_side so_far.0 (told_size (d.seen mid) c.events.engine) (d.faults mid) (d.moment mid) (k.asked c.events.clock) (tasks_of (p.seen c.events.spawner)) in
+    let behind = account_side turn.0 (told_size (d.seen new) e.new.engine) (d.faults new) (d.moment new) (k.asked e.new.clock) (tasks_of (p.seen e.new.spawner)) in
+    let door = door_side (g.W.Door.waiting c.args.door.now) (g.W.Door.given_back c.args.door.now) (g.W.Door.taken c.args.door.now) (g.W.Door.over c.args.door.now) (g.W.Door.door_faults c.args.door.now) in
+    let door1 = door_side (g.W.Door.waiting c.events.door) (g.W.Door.given_back c.events.door) (g.W.Door.taken c.events.door) (g.W.Door.over c.events.door) (g.W.Door.door_faults c.events.door) in
+    let door2 = door_side (g.W.Door.waiting e.new.door) (g.W.Door.given_back e.new.door) (g.W.Door.taken e.new.door) (g.W.Door.over e.new.door) (g.W.Door.door_faults e.new.door) in
+    let s = setting false knows (k.gives (k.rule c.args.clock.now)) (p.gives (p.rule c.args.spawner.now)) c.args.login.now c.args.runner.now.slots c.args.engine.now.log.limit base in
+    let happens = in_setting k.gives p.gives base (λ (b : Bool) (s : Setting). Happens side link.Both.stays s (d.left_since new) (d.may_leave new) (shop (timed b at) door1) (happened.Went c.in-Went.first c.in-Went.one c.in-Went.last) (shop (timed b behind) door2))
+    knows (is_some (d.seen mid)) (k.rule c.args.clock.now) (k.rule c.events.clock) (p.rule c.args.spawner.now) (p.rule c.events.spawner) c.args.login.now c.args.login.now c.args.runner.now.slots c.events.runner.slots
+    c.args.engine.now.log.limit c.events.engine.log.limit false before.told before.rule before.children refl before.slots before.limit turn.1 in
+    let moves = moves_more d.seen d.moment d.left_since old mid new c.events.engine e.new.engine base h so_far.0 turn.0 before.told so_far.4 turn.2 in
+    let carries = goes_by d.moment d.left_since mid new base so_far.0 turn.0 knows (λ is. turn.2.any_moment (before.told ∙ is)) in
+    let is_open = c.in-Went.ensures.live in
+    let all = so_far.1 ++ happens.0 ∷ [] in
+    let going = going_event side link.Both.stays s (d.left_since mid) (d.left_since new) (shop first door) so_far.1 (shop (timed knows at) door1) happens.0 (shop (timed knows behind) door2) carries so_far.2 happens.2 happens.6 happens.7 in
+    let counted = counted_more so_far.1 happens.0 c.in-Went.first c.in-Went.one _ _ _ c.add-taken.result c.add-over.result so_far.3 happens.4 happens.5 c.add-taken.ensures c.add-over.ensures in
+    let over_all : c.add-over.result ≡ c.args.connections = omega arith in
+    let few = within c.in-Went.first _ c.events.taken _ c.args.connections c.events.invariant.few c.add-taken.ensures c.in-Went.ensures.asked_for (ltb-true c.events.taken c.args.connections) in
+    let went_counts = c.in-Went.ensures.counts in
+    let taken_all : c.add-taken.result ≡ c.args.connections =
+    omega (arith, few, c.events.invariant.taken, c.events.invariant.over, went_counts.0, went_counts.1, c.add-taken.ensures, c.add-over.ensures, c.event.ensures.back, c.requires.door, c.requires.none_kept) in
+    let ends = served_ends c.args.connections all c.in-Went.last door door2 (going.none, counted.firsts_is ∙ taken_all, counted.lasts_is ∙ over_all) (last_is so_far.1 happens.0 ∙ happens.1) happens.3 in (
+      turn.0,
+      subst (λ (end : ServeEnd). ServesLinks side link.Both.stays s (d.left_since new) (d.may_leave new) c.args.connections (shop first door) end (shop (timed knows behind) door2)) (sym c.served_by.ensures)
+          (serves_open side link.Both.stays s (d.left_since new) (d.may_leave new) (shop first door) (shop (timed knows behind) door2) all c.args.connections _ going ends (no_disk c.in-Went.last)
+          (λ is. images_open d.seen d.may_leave new e.new.engine base turn.0 e.ensures.goes_on.stands is_open (moves.over is_open) (e.ensures.goes_on.stays.told is_open ∙ (before.told ∙ is)))),
+      moves,
     )
+
+pub returns-then-over-connections-clause-live : goal.returns-then-over-connections-clause-live
+returns-then-over-connections-clause-live g c = subst (λ (end : ServeEnd). StaysOpen (status.Serve end) c.event.new.engine.log.closed) (sym c.served_by.ensures) (served_open_by c.in-Went.last _ c.in-Went.ensures.live)
+
+pub returns-then-over-connections-clause-by_disk : goal.returns-then-over-connections-clause-by_disk
+returns-then-over-connections-clause-by_disk g c = subst (λ (end : ServeEnd). ByDisk (status.Serve end) (g.D.Disk.faults c.args.disk.now) (g.D.Disk.faults c.event.new.disk)) (sym c.served_by.ensures) (served_disk_by c.in-Went.last _ _)
+
+pub returns-then-over-connections-clause-by_spawner : goal.returns-then-over-connections-clause-by_spawner
+returns-then-over-connections-clause-by_spawner g c =
+    subst (λ (end : ServeEnd). BySpawner (status.Serve end) (g.P.Spawner.seen c.args.spawner.now).faults (g.P.Spawner.seen c.event.new.spawner).faults) (sym c.served_by.ensures)
+    (served_spawn_by c.in-Went.first c.in-Went.one c.in-Went.last _ _ _ _ _ c.events.invariant.spawned c.in-Went.ensures.faults)
+
+pub returns-then-over-connections-clause-by_door : goal.returns-then-over-connections-clause-by_door
+returns-then-over-connections-clause-by_door g c =
+    let before = c.events.invariant in
+    let counts = c.in-Went.ensures.counts in
+    let taken_is = c.add-taken.ensures in
+    let few = within c.in-Went.first _ c.events.taken _ c.args.connections c.events.invariant.few c.add-taken.ensures c.in-Went.ensures.asked_for (ltb-true c.events.taken c.args.connections) in
+    let went_counts = c.in-Went.ensures.counts in
+    let taken_all : c.add-taken.result ≡ c.args.connections =
+    omega (arith, few, c.events.invariant.taken, c.events.invariant.over, went_counts.0, went_counts.1, c.add-taken.ensures, c.add-over.ensures, c.event.ensures.back, c.requires.door, c.requires.none_kept) in
+    subst (λ (end : ServeEnd). ByDoor (status.Serve end) c.args.connections (g.W.Door.taken c.args.door.now) (g.W.Door.door_faults c.args.door.now) (g.W.Door.taken c.event.new.door) (g.W.Door.door_faults c.event.new.door)) (sym c.served_by.ensures)
+    (served_door_by c.in-Went.last _ _ _ _ _ (omega (arith, before.taken, counts.0, taken_is, taken_all)))
+
+pub returns-then-over-connections-clause-same : goal.returns-then-over-connections-clause-same
+returns-then-over-connections-clause-same g c = (c.event.ensures.same.0 ∙ (c.events.invariant.login ∙ sym c.requires.login), c.event.ensures.same.1 ∙ c.events.invariant.slots)
+
+pub returns-then-over-connections-clause-goes_on : goal.returns-then-over-connections-clause-goes_on
+returns-then-over-connections-clause-goes_on g c =
+    let d = g.D.Disk in
+    let before = c.events.invariant in
+    goes_on_more d.seen d.may_leave d.faults c.args.disk.now c.events.disk c.event.new.disk c.args.engine.now c.events.engine c.event.new.engine before.told before.version before.limit before.counted c.event.ensures.goes_on
+
+pub returns-then-over-connections-clause-spawn_faults : goal.returns-then-over-connections-clause-spawn_faults
+returns-then-over-connections-clause-spawn_faults g c = let more = c.event.ensures.spawn_faults in let was = c.events.invariant.spawned in omega (arith, more, was)
+
+pub returns-then-over-connections-clause-rule : goal.returns-then-over-connections-clause-rule
+returns-then-over-connections-clause-rule g c = (c.event.ensures.rule.0 ∙ c.events.invariant.rule, c.event.ensures.rule.1 ∙ c.events.invariant.children)
+
+pub returns-in-Broke-clause-served : goal.returns-in-Broke-clause-served
+returns-in-Broke-clause-served g c base h over =
+    let d = g.D.Disk in
+    let p = g.P.Spawner in
+    let k = g.C.Clock in
+    let link = g.W.Link in
+    let side = side_of link.Source.left link.Sink.got link.Source.read_faults link.Sink.write_faults in
+    let before = c.events.invariant in
+    let old = c.args.disk.now in
+    let mid = c.events.disk in
+    let e = c.event in
+    let new = e.new.disk in
+    let knows = is_some (d.seen old) in
+    let so_far = before.so_far base h over in
+    let turn = c.in-Broke.ensures.happens base so_far.0 (so_far.4.over before.ready.is_open) in
+    let first = account_side h (told_size (d.seen old) c.args.engine.now) (d.faults old) (told_time knows (d.moment old)) (k.asked c.args.clock.now) (tasks_of (p.seen c.args.spawner.now)) in
+    let at = account_side so_far.0 (told_size (d.seen mid) c.events.engine) (d.faults mid) (d.moment mid) (k.asked c.events.clock) (tasks_of (p.seen c.events.spawner)) in
+    let behind = account_side turn.0 (told_size (d.seen new) e.new.engine) (d.faults new) (d.moment new) (k.asked e.new.clock) (tasks_of (p.seen e.new.spawner)) in
+    let door = door_side (g.W.Door.waiting c.args.door.now) (g.W.Door.given_back c.args.door.now) (g.W.Door.taken c.args.door.now) (g.W.Door.over c.args.door.now) (g.W.Door.door_faults c.args.door.now) in
+    let door1 = door_side (g.W.Door.waiting c.events.door) (g.W.Door.given_back c.events.door) (g.W.Door.taken c.events.door) (g.W.Door.over c.events.door) (g.W.Door.door_faults c.events.door) in
+    let door2 = door_side (g.W.Door.waiting e.new.door) (g.W.Door.given_back e.new.door) (g.W.Door.taken e.new.door) (g.W.Door.over e.new.door) (g.W.Door.door_faults e.new.door) in
+    let s = setting false knows (k.gives (k.rule c.args.clock.now)) (p.gives (p.rule c.args.spawner.now)) c.args.login.now c.args.runner.now.slots c.args.engine.now.log.limit base in
+    let happens = in_setting k.gives p.gives base (λ (b : Bool) (s : Setting). Happens side link.Both.stays s (d.left_since new) (d.may_leave new) (shop (timed b at) door1) (happened.Broke c.in-Broke.end) (shop (timed b behind) door2))
+    knows (is_some (d.seen mid)) (k.rule c.args.clock.now) (k.rule c.events.clock) (p.rule c.args.spawner.now) (p.rule c.events.spawner) c.args.login.now c.args.login.now c.args.runner.now.slots c.events.runner.slots
+    c.args.engine.now.log.limit c.events.engine.log.limit false before.told before.rule before.children refl before.slots before.limit turn.1 in
+    let moves = moves_more d.seen d.moment d.left_since old mid new c.events.engine e.new.engine base h so_far.0 turn.0 before.told so_far.4 turn.2 in
+    let carries = goes_by d.moment d.left_since mid new base so_far.0 turn.0 knows (λ is. turn.2.any_moment (before.told ∙ is)) in (
+      turn.0,
+      serves_broke side link.Both.stays s (d.left_since mid) (d.left_since new) (d.may_leave new) (shop first door) so_far.1 (shop (timed knows at) door1) happens.0 c.in-Broke.end (shop (timed knows behind) door2) c.args.connections carries so_far.2 happens.1 happens.2 happens.3 happens.4,
+      moves,
+    )
+
+pub returns-in-Broke-clause-live : goal.returns-in-Broke-clause-live
+returns-in-Broke-clause-live g c = broke_open c.in-Broke.end _ c.in-Broke.ensures.live
+
+pub returns-in-Broke-clause-by_disk : goal.returns-in-Broke-clause-by_disk
+returns-in-Broke-clause-by_disk g c = broke_disk c.in-Broke.end _ _ _ _ _ c.events.invariant.counted c.in-Broke.ensures.faults
+
+pub returns-in-Broke-clause-by_door : goal.returns-in-Broke-clause-by_door
+returns-in-Broke-clause-by_door g c =
+    let before = c.events.invariant in
+    let o = some_over _ _ before.ready.is_open before.ready.serves in
+    let turn = c.in-Broke.ensures.happens o.0 o.1 o.2 in
+    broke_door c.in-Broke.end (break_is turn.1.0 c.in-Broke.end turn.1.1) _ _ _ _ _
+
+pub returns-in-Broke-clause-by_spawner : goal.returns-in-Broke-clause-by_spawner
+returns-in-Broke-clause-by_spawner g c =
+    let before = c.events.invariant in
+    let o = some_over _ _ before.ready.is_open before.ready.serves in
+    let turn = c.in-Broke.ensures.happens o.0 o.1 o.2 in
+    broke_spawner c.in-Broke.end (break_is turn.1.0 c.in-Broke.end turn.1.1) _ _
+
+pub returns-in-Broke-clause-same : goal.returns-in-Broke-clause-same
+returns-in-Broke-clause-same g c = (c.event.ensures.same.0 ∙ (c.events.invariant.login ∙ sym c.requires.login), c.event.ensures.same.1 ∙ c.events.invariant.slots)
+
+pub returns-in-Broke-clause-goes_on : goal.returns-in-Broke-clause-goes_on
+returns-in-Broke-clause-goes_on g c =
+    let d = g.D.Disk in
+    let before = c.events.invariant in
+    goes_on_more d.seen d.may_leave d.faults c.args.disk.now c.events.disk c.event.new.disk c.args.engine.now c.events.engine c.event.new.engine before.told before.version before.limit before.counted c.event.ensures.goes_on
+
+pub returns-in-Broke-clause-spawn_faults : goal.returns-in-Broke-clause-spawn_faults
+returns-in-Broke-clause-spawn_faults g c = let more = c.event.ensures.spawn_faults in let was = c.events.invariant.spawned in omega (arith, more, was)
+
+pub returns-in-Broke-clause-rule : goal.returns-in-Broke-clause-rule
+returns-in-Broke-clause-rule g c = (c.event.ensures.rule.0 ∙ c.events.invariant.rule, c.event.ensures.rule.1 ∙ c.events.invariant.children)
+
+pub returns-in-NoLink-clause-served : goal.returns-in-NoLink-clause-served
+returns-in-NoLink-clause-served g c base h over =
+    let d = g.D.Disk in
+    let p = g.P.Spawner in
+    let k = g.C.Clock in
+    let link = g.W.Link in
+    let side = side_of link.Source.left link.Sink.got link.Source.read_faults link.Sink.write_faults in
+    let before = c.events.invariant in
+    let old = c.args.disk.now in
+    let mid = c.events.disk in
+    let e = c.event in
+    let new = e.new.disk in
+    let knows = is_some (d.seen old) in
+    let so_far = before.so_far base h over in
+    let turn = c.in-NoLink.ensures.happens base so_far.0 (so_far.4.over before.ready.is_open) in
+    let first = account_side h (told_size (d.seen old) c.args.engine.now) (d.faults old) (told_time knows (d.moment old)) (k.asked c.args.clock.now) (tasks_of (p.seen c.args.spawner.now)) in
+    let at = account_side so_far.0 (told_size (d.seen mid) c.events.engine) (d.faults mid) (d.moment mid) (k.asked c.events.clock) (tasks_of (p.seen c.events.spawner)) in
+    let behind = account_side turn.0 (told_size (d.seen new) e.new.engine) (d.faults new) (d.moment new) (k.asked e.new.clock) (tasks_of (p.seen e.new.spawner)) in
+    let door = door_side (g.W.Door.waiting c.args.door.now) (g.W.Door.given_back c.args.door.now) (g.W.Door.taken c.args.door.now) (g.W.Door.over c.args.door.now) (g.W.Door.door_faults c.args.door.now) in
+    let door1 = door_side (g.W.Door.waiting c.events.door) (g.W.Door.given_back c.events.door) (g.W.Door.taken c.events.door) (g.W.Door.over c.events.door) (g.W.Door.door_faults c.events.door) in
+    let door2 = door_side (g.W.Door.waiting e.new.door) (g.W.Door.given_back e.new.door) (g.W.Door.taken e.new.door) (g.W.Door.over e.new.door) (g.W.Door.door_faults e.new.door) in
+    let s = setting false knows (k.gives (k.rule c.args.clock.now)) (p.gives (p.rule c.args.spawner.now)) c.args.login.now c.args.runner.now.slots c.args.engine.now.log.limit base in
+    let happens = in_setting k.gives p.gives base (λ (b : Bool) (s : Setting). Happens side link.Both.stays s (d.left_since new) (d.may_leave new) (shop (timed b at) door1) (happened.NoLink) (shop (timed b behind) door2))
+    knows (is_some (d.seen mid)) (k.rule c.args.clock.now) (k.rule c.events.clock) (p.rule c.args.spawner.now) (p.rule c.events.spawner) c.args.login.now c.args.login.now c.args.runner.now.slots c.events.runner.slots
+    c.args.engine.now.log.limit c.events.engine.log.limit false before.told before.rule before.children refl before.slots before.limit turn.1 in
+    let moves = moves_more d.seen d.moment d.left_since old mid new c.events.engine e.new.engine base h so_far.0 turn.0 before.told so_far.4 turn.2 in
+    let carries = goes_by d.moment d.left_since mid new base so_far.0 turn.0 knows (λ is. turn.2.any_moment (before.told ∙ is)) in
+    let is_open = c.in-NoLink.ensures.live in
+    let few = ltb-true c.events.taken c.args.connections c.in-NoLink.ensures.asked_for in
+    let rose = happens.2 in
+    let going = going_same side link.Both.stays s (d.left_since mid) (d.left_since new) (shop first door) so_far.1 (shop (timed knows at) door1) (shop (timed knows behind) door2) carries so_far.2 happens.0 happens.1 in (
+      turn.0,
+      serves_open side link.Both.stays s (d.left_since new) (d.may_leave new) (shop first door) (shop (timed knows behind) door2) so_far.1 c.args.connections _ going
+          (so_far.2.none, subst (λ n. n < c.args.connections) (sym so_far.3.firsts_is) few, omega (arith, before.failed, rose)) no_link_no_disk
+          (λ is. images_open d.seen d.may_leave new e.new.engine base turn.0 e.ensures.goes_on.stands is_open (moves.over is_open) (e.ensures.goes_on.stays.told is_open ∙ (before.told ∙ is))),
+      moves,
+    )
+
+pub returns-in-NoLink-clause-by_door : goal.returns-in-NoLink-clause-by_door
+returns-in-NoLink-clause-by_door g c =
+    let before = c.events.invariant in
+    let counts = c.in-NoLink.ensures.counts in
+    let few = ltb-true c.events.taken c.args.connections c.in-NoLink.ensures.asked_for in
+    (omega (arith, before.taken, counts.0, few), omega (arith, before.failed, counts.1))
+
+pub returns-in-NoLink-clause-same : goal.returns-in-NoLink-clause-same
+returns-in-NoLink-clause-same g c = (c.event.ensures.same.0 ∙ (c.events.invariant.login ∙ sym c.requires.login), c.event.ensures.same.1 ∙ c.events.invariant.slots)
+
+pub returns-in-NoLink-clause-goes_on : goal.returns-in-NoLink-clause-goes_on
+returns-in-NoLink-clause-goes_on g c =
+    let d = g.D.Disk in
+    let before = c.events.invariant in
+    goes_on_more d.seen d.may_leave d.faults c.args.disk.now c.events.disk c.event.new.disk c.args.engine.now c.events.engine c.event.new.engine before.told before.version before.limit before.counted c.event.ensures.goes_on
+
+pub returns-in-NoLink-clause-spawn_faults : goal.returns-in-NoLink-clause-spawn_faults
+returns-in-NoLink-clause-spawn_faults g c = let more = c.event.ensures.spawn_faults in let was = c.events.invariant.spawned in omega (arith, more, was)
+
+pub returns-in-NoLink-clause-rule : goal.returns-in-NoLink-clause-rule
+returns-in-NoLink-clause-rule g c = (c.event.ensures.rule.0 ∙ c.events.invariant.rule, c.event.ensures.rule.1 ∙ c.events.invariant.children)
 
 pub returns-clause-served : goal.returns-clause-served
 returns-clause-served g c base h over =
@@ -120,40 +342,27 @@ returns-clause-served g c base h over =
     let so_far = before.so_far base h over in
     let all : c.events._event ≡ 18446744073709551615 = omega arith in (
       so_far.0,
-      served_open _ _ _ _ _ so_far.1 _ _ so_far.2 (so_far.2.none, so_far.3.all_is ∙ all)
-          (λ knows. images_open d.seen d.may_leave c.events.disk c.events.engine base so_far.0 before.ready.stands before.ready.is_open (so_far.4.over before.ready.is_open) (before.told ∙ knows))
-          (leaves d.moment d.left_since c.args.disk.now c.events.disk (IsBetween base h so_far.0) _ so_far.4.any_moment)
-          (size_told d.seen d.may_leave c.events.disk c.events.engine before.ready.stands before.ready.is_open) (λ e. cc) (λ e. cc),
+      serves_open _ _ _ _ _ _ _ so_far.1 _ _ so_far.2 (so_far.2.none, so_far.3.all_is ∙ all) spent_no_disk
+          (λ is. images_open d.seen d.may_leave c.events.disk c.events.engine base so_far.0 before.ready.stands before.ready.is_open (so_far.4.over before.ready.is_open) (before.told ∙ is)),
+      so_far.4,
     )
 
-pub returns-in-NoLink-clause-served : goal.returns-in-NoLink-clause-served
-returns-in-NoLink-clause-served g c base h over =
-    let d = g.D.Disk in
-    let before = c.events.invariant in
-    let went = c.visit.ensures.goes_on in
-    let so_far = before.so_far base h over in
-    let turn = c.in-NoLink.ensures.visit base so_far.0 (so_far.4.over before.ready.is_open) in
-    let moves = moves_more d.seen d.moment d.left_since _ _ _ _ _ base h so_far.0 turn.0 before.told so_far.4 turn.2 in
-    let is_open = c.in-NoLink.ensures.live (none-some _) (none-some _) in
-    let few = ltb-true c.events.taken c.args.connections c.in-NoLink.ensures.asked_for in
-    let rose = turn.1.2 in (
-      turn.0,
-      served_open _ _ _ _ _ so_far.1 _ _ (going_same _ _ _ _ _ _ so_far.1 _ _ (goes_by d.moment d.left_since c.events.disk c.visit.new.disk base so_far.0 turn.0 _ (λ knows. turn.2.any_moment (before.told ∙ knows))) so_far.2 (same_here _ _ before.told so_far.0 _ _ _ _ turn.0 _ _ _ _ turn.1.0) turn.1.1)
-          (so_far.2.none, subst (λ n. n < c.args.connections) (sym so_far.3.firsts_is) few, omega (arith, before.failed, rose))
-          (λ knows. images_open d.seen d.may_leave c.visit.new.disk c.visit.new.engine base turn.0 went.stands is_open (moves.over is_open) (went.stays.told is_open ∙ (before.told ∙ knows)))
-          (leaves d.moment d.left_since c.args.disk.now c.visit.new.disk (IsBetween base h turn.0) _ moves.any_moment)
-          (size_told d.seen d.may_leave c.visit.new.disk c.visit.new.engine went.stands is_open) (λ e. cc) (λ e. cc),
-    )
+pub returns-clause-at_work : goal.returns-clause-at_work
+returns-clause-at_work g c = c.events.invariant.at_work
 
-pub returns-in-Some-clause-served : goal.returns-in-Some-clause-served
-returns-in-Some-clause-served g c base h over =
-    let d = g.D.Disk in
+pub returns-clause-same : goal.returns-clause-same
+returns-clause-same g c = (c.events.invariant.login ∙ sym c.requires.login, c.events.invariant.slots)
+
+pub returns-clause-goes_on : goal.returns-clause-goes_on
+returns-clause-goes_on g c =
     let before = c.events.invariant in
-    let so_far = before.so_far base h over in
-    let turn = c.in-Had.ensures.visit base so_far.0 (so_far.4.over before.ready.is_open) in
-    let here = visit_here _ _ g.C.Clock.gives c.args.login.now base _ _ _ _ _ _ before.told before.rule before.limit _ _ so_far.0 _ _ _ _ _ (came.Had c.in-Had.first c.in-Had.last c.in-Had.end) turn.0 _ _ _ _ _ turn.1 in
-    let moves = moves_more d.seen d.moment d.left_since _ _ _ _ _ base h so_far.0 turn.0 before.told so_far.4 turn.2 in (
-      turn.0,
-      served_broke _ _ _ _ _ so_far.1 _ here.0 c.in-Had.end c.in-Some.end _ _ here.3 (sym c.end_breaks.ensures ∙ c.in-Some.is) (goes_by d.moment d.left_since c.events.disk c.visit.new.disk base so_far.0 turn.0 _ (λ knows. turn.2.any_moment (before.told ∙ knows))) so_far.2
-          here.4 here.5 here.6 turn.2.front (leaves d.moment d.left_since c.args.disk.now c.visit.new.disk (IsBetween base h turn.0) _ moves.any_moment),
-    )
+    record { stays = record { told = λ is. before.told; version = λ is. before.version; limit = λ is. before.limit; faults = before.counted }; stands = before.ready.stands; serves = before.ready.serves }
+
+pub returns-clause-live : goal.returns-clause-live
+returns-clause-live g c = c.events.invariant.ready.is_open
+
+pub returns-clause-spawn_faults : goal.returns-clause-spawn_faults
+returns-clause-spawn_faults g c = c.events.invariant.spawned
+
+pub returns-clause-rule : goal.returns-clause-rule
+returns-clause-rule g c = (c.events.invariant.rule, c.events.invariant.children)

@@ -1,64 +1,89 @@
 -- The connection is served over the history at entry, or the store was not opened and nothing was read.
-use Rattle.std.proofs.Common.{refl, ap, ◌∙◌}
-use Rattle.std.specs.Prelude.{Err}
+use Rattle.std.proofs.Common.{◌≡◌, ℕ, Bool, refl, ap, subst, ◌∙◌}
+use Rattle.std.specs.Prelude.{Err, is_some}
 use Rattle.mt_disk.proofs.Moments.{leaves_now}
-use Rattle.mt_engine.specs.Current.{IsBetween}
+use Rattle.mt_engine.specs.Current.{IsBetween, told_size}
 use Rattle.mt_log.specs.LogImage.{SameLog}
-use Rattle.mt_connection.proofs.Completeness.{some_over}
-use Rattle.mt_connection.proofs.Crashes.{between_first}
-use Rattle.mt_connection.specs.Sides.{link_side}
-use Rattle.mt_server.proofs.Connecting.{has_run, leaves, served_disk, served_link, size_told}
+use Rattle.mt_runner.specs.Account.{account_side, tasks_of, told_time}
+use Rattle.mt_connection.proofs.Crashes.{between_first, told_later}
+use Rattle.mt_connection.specs.Sides.{LinkSide, joined, link_side}
+use Rattle.mt_connection.specs.Transcript.{Setting, setting}
+use Rattle.mt_server.specs.Events.{size_of}
+use Rattle.mt_server.specs.Guarantees.{IsStopped, Worked}
+use Rattle.mt_server.proofs.Connecting.{is_stood, leaves, size_told, sized}
 use Rattle.mt_server.proofs.Opened.{crash_from_entry, kept_size, opening_holds, over_opened, some_files}
+use Rattle.mt_server.proofs.Overs.{in_setting, timed}
 use Rattle.mt_server.proofs.Serves.{not_begun, said_why, unopened_serve}
-use Rattle.mt_server.proofs.Sessions.{served_opened, unserved_run}
-use Rattle.mt_server.proofs.Settling.{ready_open, ready_refused, ready_session, ready_unopened}
-use Rattle.mt_server.proofs.Unopened.{later_session, some_bytes, unopened_link, unopened_session}
+use Rattle.mt_server.proofs.Sessions.{has_run, unserved_run, worked_earlier}
+use Rattle.mt_server.proofs.Settling.{ready_begun, ready_open, ready_refused, ready_unopened}
+use Rattle.mt_server.proofs.Unopened.{later_disk, later_spawner, some_bytes, unopened_link, unopened_session, unopened_spawner}
 use Rattle.mt_server.proofs.session.session.Goals as goal
 
 pub returns-in-Ok-clause-run : goal.returns-in-Ok-clause-run
 returns-in-Ok-clause-run g c base h has =
     let d = g.D.Disk in
+    let p = g.P.Spawner in
+    let k = g.C.Clock in
     let source = c.args.source.now in
     let old = c.args.disk.now in
     let mid = c.open_store.new.disk in
-    let new = c.serve_joined.new.disk in
+    let w = c.work_session-status in
+    let new = w.new.disk in
+    let knows = is_some (d.seen old) in
     let ready = c.in-Ok.ensures.ready in
     let tells = c.in-Ok.ensures.tells in
     let opening = c.open_store.ensures.any_moment in
-    let x = c.serve_joined.ensures.served base h (over_opened _ _ _ base h tells c.in-Ok.ensures.current has) in
+    let fewer = c.open_store.ensures.faults in
+    let x = w.ensures.worked base h (over_opened _ _ _ base h tells c.in-Ok.ensures.current has) in
+    let tasks = tasks_of (p.seen c.args.spawner.now) in
+    let tasks' = tasks_of (p.seen w.new.spawner) in
+    let link = link_side (g.S.Source.left source) (g.K.Sink.got c.args.sink.now) (g.S.Source.read_faults source) (g.K.Sink.write_faults c.args.sink.now) in
+    let link' = link_side (g.S.Source.left source) (g.K.Sink.got c.open_store.new.sink) (g.S.Source.read_faults source) (g.K.Sink.write_faults c.open_store.new.sink) in
+    let link2 = link_side (g.S.Source.left w.new.source) (g.K.Sink.got w.new.sink) (g.S.Source.read_faults w.new.source) (g.K.Sink.write_faults w.new.sink) in
+    let before = account_side h (told_size (d.seen mid) c.in-Ok.engine) (d.faults mid) (d.moment mid) (k.asked c.args.clock.now) tasks in
+    let behind = account_side x.0 (told_size (d.seen new) w.new.engine) (d.faults new) (d.moment new) (k.asked w.new.clock) tasks' in
     let same_size = size_told d.seen d.may_leave mid c.in-Ok.engine ready.stands ready.is_open
     ∙ kept_size _ _ tells (λ files is now now_is. leaves_now d.moment d.left_since d.may_leave _ _ (SameLog files) (opening files is) (g.met.D.Disk.counts_now mid) now (g.met.D.Disk.seen_is_left mid now now_is)) in
-    let same_link = ap (λ (k : g.row.K.Denot). link_side (g.S.Source.left source) (g.K.Sink.got k) (g.S.Source.read_faults source) (g.K.Sink.write_faults k)) c.in-Ok.ensures.opened.0 in (
+    let same_link : link' ≡ link = ap (λ (k : g.row.K.Denot). link_side (g.S.Source.left source) (g.K.Sink.got k) (g.S.Source.read_faults source) (g.K.Sink.write_faults k)) c.in-Ok.ensures.opened.0 in
+    let here = in_setting k.gives p.gives base (λ (b : Bool) (s : Setting). Worked s (d.left_since new) (joined link' (timed b before)) w.result (joined link2 (timed b behind)))
+    knows (is_some (d.seen mid)) (k.rule c.args.clock.now) (k.rule c.args.clock.now) (p.rule c.args.spawner.now) (p.rule c.args.spawner.now) c.args.login.now c.args.login.now c.args.runner.now.slots c.args.runner.now.slots c.args.limit c.in-Ok.engine.log.limit
+    (is_some (g.S.Source.left source)) tells refl refl refl refl c.in-Ok.ensures.limit x.1 in
+    let s = setting (is_some (g.S.Source.left source)) knows (k.gives (k.rule c.args.clock.now)) (p.gives (p.rule c.args.spawner.now)) c.args.login.now c.args.runner.now.slots c.args.limit base in
+    let there = subst (λ (l : LinkSide). Worked s (d.left_since new) (joined l (account_side h (size_of (d.seen old)) (d.faults mid) (told_time knows (d.moment mid)) (k.asked c.args.clock.now) tasks)) w.result (joined link2 (timed knows behind))) same_link
+    (subst (λ (n : ℕ). Worked s (d.left_since new) (joined link' (account_side h n (d.faults mid) (told_time knows (d.moment mid)) (k.asked c.args.clock.now) tasks)) w.result (joined link2 (timed knows behind))) same_size here) in
+    let early = told_later knows (d.moment old) (d.moment mid) (λ knows. let there = some_files (d.seen old) knows in (opening there.0 there.1).later) in
+    let first = worked_earlier s (d.left_since new) link h _ (d.faults mid) (d.faults old) (told_time knows (d.moment mid)) (told_time knows (d.moment old)) (k.asked c.args.clock.now) tasks (joined link2 (timed knows behind)) fewer early w.result there in
+    let stopped : IsStopped (timed knows behind) (timed knows (account_side x.0 (told_size (d.seen new) w.new.engine) (d.faults new) (d.moment new) (k.asked w.new.clock) (tasks_of (p.seen c.stop.new.spawner)))) =
+    record { history = refl; used = refl; disk_faults = refl; time = refl; asked = refl; waits = c.stop.ensures.counts.waits; company = c.stop.ensures.counts.company; faults = c.stop.ensures.faults } in (
       x.0,
       _,
-      has_run _ _ c.serve_joined.result _
-          (served_opened _ _ _ base _ _ _ _ _ _ _ _ _ _ tells c.in-Ok.ensures.limit same_size same_link h _ _ _ _ _ _ _ x.0 _ _ _ _ c.open_store.ensures.faults (λ knows. let there = some_files (d.seen old) knows in (opening there.0 there.1).later) x.1)
+      has_run s (λ h used asked t may. may) _ (joined link2 (timed knows behind)) w.result _ first refl stopped
+          (λ knows. let there = some_files (d.seen old) knows in is_stood base h there.0 (has there.0 there.1))
           (λ knows. x.2 (tells ∙ knows))
-          x.3.front
-          (leaves d.moment d.left_since old new (IsBetween base h x.0) _ (λ knows. let there = some_files (d.seen old) knows in crash_from_entry d.may_leave d.moment d.left_since old mid new there.0 base h x.0 (has there.0 there.1) (opening there.0 there.1) (x.3.any_moment (tells ∙ knows)) (λ c has. between_first base h x.0 c x.3.front has)))
-          (λ no_disk no_memory. size_told d.seen d.may_leave new c.serve_joined.new.engine c.serve_joined.ensures.goes_on.stands (c.serve_joined.ensures.live no_disk no_memory)),
+          (λ knows. sized w.result w.new.engine.log.closed _ _ w.ensures.of_session.1 w.ensures.live (size_told d.seen d.may_leave new w.new.engine w.ensures.goes_on.stands))
+          (leaves d.moment d.left_since old new (IsBetween base h x.0) _ (λ knows. let there = some_files (d.seen old) knows in crash_from_entry d.may_leave d.moment d.left_since old mid new there.0 base h x.0 (has there.0 there.1) (opening there.0 there.1) (x.3.any_moment (tells ∙ knows)) (λ c has. between_first base h x.0 c x.3.front has))),
     )
 
 pub returns-in-Ok-clause-begun : goal.returns-in-Ok-clause-begun
 returns-in-Ok-clause-begun g c begun = c.in-Ok.ensures.opened.1
 
-pub returns-in-Ok-clause-by_bytes : goal.returns-in-Ok-clause-by_bytes
-returns-in-Ok-clause-by_bytes g c =
-    let o = some_over _ _ c.in-Ok.ensures.ready.is_open c.in-Ok.ensures.ready.serves in
-    (c.serve_joined.ensures.served o.0 o.1 o.2).1.by_bytes
-
 pub returns-in-Ok-clause-by_link : goal.returns-in-Ok-clause-by_link
-returns-in-Ok-clause-by_link g c =
-    let o = some_over _ _ c.in-Ok.ensures.ready.is_open c.in-Ok.ensures.ready.serves in
-    rw c.in-Ok.ensures.opened.0 at (served_link _ _ _ _ _ _ (c.serve_joined.ensures.served o.0 o.1 o.2).1)
+returns-in-Ok-clause-by_link g c = rw c.in-Ok.ensures.opened.0 at (c.work_session-status.ensures.by_link)
 
 pub returns-in-Ok-clause-by_disk : goal.returns-in-Ok-clause-by_disk
-returns-in-Ok-clause-by_disk g c =
-    let o = some_over _ _ c.in-Ok.ensures.ready.is_open c.in-Ok.ensures.ready.serves in
-    later_session c.serve_joined.result _ _ _ c.open_store.ensures.faults (served_disk _ _ _ _ _ _ (c.serve_joined.ensures.served o.0 o.1 o.2).1)
+returns-in-Ok-clause-by_disk g c = later_disk c.work_session-status.result _ _ _ c.open_store.ensures.faults c.work_session-status.ensures.by_disk
+
+pub returns-in-Ok-clause-by_spawner : goal.returns-in-Ok-clause-by_spawner
+returns-in-Ok-clause-by_spawner g c = later_spawner c.work_session-status.result _ _ _ c.work_session-status.ensures.by_spawner c.stop.ensures.faults
 
 pub returns-in-Ok-clause-sink_stays : goal.returns-in-Ok-clause-sink_stays
-returns-in-Ok-clause-sink_stays g c = g.met.K.Sink.sink_joined _ _ _ c.open_store.ensures.stays c.serve_joined.ensures.sink_stays
+returns-in-Ok-clause-sink_stays g c = g.met.K.Sink.sink_joined _ _ _ c.open_store.ensures.stays c.work_session-status.ensures.sink_stays
+
+pub returns-in-Ok-clause-rest : goal.returns-in-Ok-clause-rest
+returns-in-Ok-clause-rest g c =
+    let d = g.D.Disk in
+    let w = c.work_session-status in
+    ready_begun w.result w.new.engine.log.closed _ _ w.ensures.of_session.1 w.ensures.live (λ is_open. ready_open d.seen d.may_leave w.new.disk w.new.engine.log w.ensures.goes_on.stands is_open)
 
 pub returns-in-Err-clause-run : goal.returns-in-Err-clause-run
 returns-in-Err-clause-run g c base h has =
@@ -68,7 +93,7 @@ returns-in-Err-clause-run g c base h has =
       h,
       _,
       unserved_run _ _ _ c.in-Err.status closed.0 (record { history = refl; used = refl; left = refl; ends = closed.1 })
-          (opening_holds d.seen d.may_leave d.moment d.left_since c.args.disk.now new (g.met.D.Disk.counts_now new) (g.met.D.Disk.seen_is_left new) _ h _ _ _ c.in-Err.status _ _ _ _ refl has c.open_store.ensures.any_moment closed.0 closed.1 c.open_store.ensures.faults
+          (opening_holds d.seen d.may_leave d.moment d.left_since c.args.disk.now new (g.met.D.Disk.counts_now new) (g.met.D.Disk.seen_is_left new) _ h _ _ _ _ c.in-Err.status _ _ _ _ refl has c.open_store.ensures.any_moment closed.0 closed.1 c.open_store.ensures.faults
           (λ why is files seen_is. (c.open_store.ensures.refused why (c.in-Err.is ∙ ap (λ e. Err e) is) files seen_is).1)),
     )
 
@@ -79,7 +104,7 @@ pub returns-in-Err-clause-begun : goal.returns-in-Err-clause-begun
 returns-in-Err-clause-begun g c begun = absurd (not_begun c.in-Err.status c.in-Err.ensures.unopened.0 begun)
 
 pub returns-in-Err-clause-unopened : goal.returns-in-Err-clause-unopened
-returns-in-Err-clause-unopened g c closed = (refl, c.open_store.ensures.any_moment)
+returns-in-Err-clause-unopened g c closed = (refl, refl, c.open_store.ensures.any_moment)
 
 pub returns-in-Err-clause-silent : goal.returns-in-Err-clause-silent
 returns-in-Err-clause-silent g c = c.in-Err.ensures.silent
@@ -96,11 +121,8 @@ returns-in-Err-clause-by_link g c = unopened_link c.in-Err.status _ _ _ _ c.in-E
 pub returns-in-Err-clause-by_disk : goal.returns-in-Err-clause-by_disk
 returns-in-Err-clause-by_disk g c = (unopened_serve c.in-Err.status _ _ _ _ _ _ c.in-Err.ensures.unopened.1).1
 
-pub returns-in-Ok-clause-rest : goal.returns-in-Ok-clause-rest
-returns-in-Ok-clause-rest g c =
-    let d = g.D.Disk in
-    ready_session c.serve_joined.result _ _
-    (λ no_disk no_memory. ready_open d.seen d.may_leave c.serve_joined.new.disk c.serve_joined.new.engine.log c.serve_joined.ensures.goes_on.stands (c.serve_joined.ensures.live no_disk no_memory))
+pub returns-in-Err-clause-by_spawner : goal.returns-in-Err-clause-by_spawner
+returns-in-Err-clause-by_spawner g c = unopened_spawner c.in-Err.status _ _ c.in-Err.ensures.unopened.0
 
 pub returns-in-Err-clause-rest : goal.returns-in-Err-clause-rest
 returns-in-Err-clause-rest g c =

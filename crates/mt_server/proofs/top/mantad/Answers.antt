@@ -1,11 +1,17 @@
 -- The run, by its status.
-use Rattle.std.proofs.Common.{◌≡◌, ◌⊎◌, ℕ, inl, inr, refl, ap, subst, sym, ◌∙◌}
-use Rattle.std.specs.Prelude.{IfSome, map, string_bytes}
+use Rattle.std.proofs.Common.{◌≡◌, ◌⊎◌, ℕ, inl, inr, ap, subst, sym, ◌∙◌}
+use Rattle.std.specs.Prelude.{IfSome, false, is_some, map, string_bytes}
+use Rattle.mt_engine.specs.History.{HasHistory}
+use Rattle.mt_connection.specs.Transcript.{setting}
+use Rattle.mt_server.proofs.Complete.{SessionEnds, serve_ends, session_ends}
+use Rattle.mt_server.proofs.Connecting.{is_stood}
+use Rattle.mt_server.proofs.Done.{only_files, serve_done, session_done}
+use Rattle.mt_server.proofs.Finishing.{finished_by}
 use Rattle.mt_engine.proofs.Openings.{not_both}
-use Rattle.mt_server.specs.Statuses.{ByBytes, IsSilent, IsUnopened, code_of}
+use Rattle.mt_server.specs.Statuses.{ByBytes, IsAnswered, IsSilent, IsUnopened, code_of}
 use Rattle.mt_server.specs.declared.status.Status.{Status}
 use Rattle.mt_server.proofs.Settling.{ready_by}
-use Rattle.mt_server.proofs.Tops.{asked_of, all_links, disk_rose, fewer_links, is_ended, is_many, is_no_link, is_refused, is_served, is_silent, is_truncated, is_unopened, is_unreadable, is_usage, not_usage, read_rose, serve_numbers, serve_silent, unopened_numbers, write_rose}
+use Rattle.mt_server.proofs.Tops.{IsServeNumber, all_links, asked_of, disk_rose, fewer_links, is_drained, is_many, is_no_link, is_refused, is_silent, is_truncated, is_unopened, is_unreadable, is_usage, not_usage, read_rose, serve_numbers, serve_silent, spawn_rose, unopened_numbers, write_rose}
 use Rattle.mt_server.proofs.top.mantad.Goals as goal
 
 pub returns-clause-run : goal.returns-clause-run
@@ -15,7 +21,7 @@ pub returns-clause-served : goal.returns-clause-served
 returns-clause-served g c settings connections wants base h has = let x = c.run.ensures.serve settings connections wants base h has in (c.run.result, c.code.ensures, x.0, x.1, x.2)
 
 pub returns-clause-early_usage : goal.returns-clause-early_usage
-returns-clause-early_usage g c is = let u = c.run.ensures.usage (is_usage c.run.result (sym c.code.ensures ∙ is)) in (u.1, u.2, u.3, u.4)
+returns-clause-early_usage g c is = let u = c.run.ensures.usage (is_usage c.run.result (sym c.code.ensures ∙ is)) in (u.1, u.2, u.3, u.5)
 
 pub returns-clause-early_unreadable : goal.returns-clause-early_unreadable
 returns-clause-early_unreadable g c settings wants is =
@@ -30,10 +36,10 @@ returns-clause-untouched g c settings wants files seen_is why refused =
     let closed = is_unopened c.run.result (λ begun. not_both files why refused (c.run.ensures.begun begun files seen_is)) in
     let no_usage = not_usage (map string_bytes c.args.words.now) settings wants c.run.result (λ is. (c.run.ensures.usage is).0) in
     let kept = c.run.ensures.unopened closed in
-    (kept.0, kept.1, refl, (λ no_line. c.run.ensures.silent (is_silent c.run.result closed no_usage (λ e. no_line (c.code.ensures ∙ e)))), kept.2 files seen_is)
+    (kept.0, kept.1, kept.2, (λ no_line. c.run.ensures.silent (is_silent c.run.result closed no_usage (λ e. no_line (c.code.ensures ∙ e)))), kept.3 files seen_is)
 
 pub returns-clause-outside : goal.returns-clause-outside
-returns-clause-outside g c = (refl, c.run.ensures.source_stays, c.run.ensures.sink_stays, c.run.ensures.rule)
+returns-clause-outside g c = (c.run.ensures.source_stays, c.run.ensures.sink_stays, c.run.ensures.rule.0, c.run.ensures.rule.1)
 
 pub returns-clause-outside_session : goal.returns-clause-outside_session
 returns-clause-outside_session g c settings wants = (c.run.ensures.of_session settings wants).1
@@ -56,7 +62,7 @@ returns-clause-one_exactly g c fault is =
       facts.2,
       facts.3,
       (elim facts.0 [ inl usage ↦ inr (c.code.ensures ∙ ap code_of usage) | inr memory ↦ inl (c.run.ensures.silent (subst (λ (s : Status). IsSilent s) (sym memory) tt)) ]),
-      refl,
+      facts.4,
     )
 
 pub returns-clause-two_exactly : goal.returns-clause-two_exactly
@@ -76,7 +82,7 @@ returns-clause-five g c is = disk_rose c.run.result _ _ (sym c.code.ensures ∙ 
 
 pub returns-clause-of_serve : goal.returns-clause-of_serve
 returns-clause-of_serve g c settings connections wants =
-    subst (λ (r : ℕ). (r ≡ 0) ⊎ (r ≡ 2) ⊎ (r ≡ 5) ⊎ (r ≡ 8) ⊎ (r ≡ 10)) (sym c.code.ensures) (serve_numbers c.run.result (c.run.ensures.of_serve settings connections wants).0)
+    subst (λ (r : ℕ). IsServeNumber r) (sym c.code.ensures) (serve_numbers c.run.result (c.run.ensures.of_serve settings connections wants).0)
 
 pub returns-clause-ten : goal.returns-clause-ten
 returns-clause-ten g c is =
@@ -85,11 +91,25 @@ returns-clause-ten g c is =
 
 pub returns-clause-links : goal.returns-clause-links
 returns-clause-links g c settings connections wants is =
-    let end = is_served c.run.result (c.run.ensures.of_serve settings connections wants).0 (sym c.code.ensures ∙ is) in
-    all_links c.run.result _ _ _ _ _ end (c.run.ensures.by_door settings connections wants)
+    all_links c.run.result (c.run.ensures.of_serve settings connections wants).0 (subst (λ (r : ℕ). IsAnswered r) c.code.ensures is) _ _ _ _ _ (c.run.ensures.by_door settings connections wants)
 
 pub returns-clause-zero : goal.returns-clause-zero
-returns-clause-zero g c settings wants is = subst (λ (s : Status). IfSome (g.S.Source.left c.args.source.now) (λ bytes. ByBytes bytes s)) (is_ended c.run.result (c.run.ensures.of_session settings wants).0 (sym c.code.ensures ∙ is)) c.run.ensures.by_bytes
+returns-clause-zero g c settings wants is =
+    let end = is_drained c.run.result (c.run.ensures.of_session settings wants).0 (subst (λ (r : ℕ). IsAnswered r) c.code.ensures is) in
+    subst (λ (s : Status). IfSome (g.S.Source.left c.args.source.now) (λ bytes. ByBytes bytes s)) end.1 c.run.ensures.by_bytes
+
+pub returns-clause-six : goal.returns-clause-six
+returns-clause-six g c is = spawn_rose c.run.result _ _ (sym c.code.ensures ∙ is) c.run.ensures.by_spawner
+
+-- a status of words or of a log comes before anything is started
+pub returns-clause-started_nothing : goal.returns-clause-started_nothing
+returns-clause-started_nothing g c is =
+    elim is [
+      | inl one ↦ let u = c.run.ensures.usage (is_usage c.run.result (sym c.code.ensures ∙ one)) in u.4
+      | inr two ↦
+          let end = is_unreadable c.run.result (sym c.code.ensures ∙ two) in
+          (c.run.ensures.unopened (subst (λ (s : Status). IsUnopened s) (sym end.1) tt)).2
+    ]
 
 pub returns-clause-eleven : goal.returns-clause-eleven
 returns-clause-eleven g c settings wants is = subst (λ (s : Status). IfSome (g.S.Source.left c.args.source.now) (λ bytes. ByBytes bytes s)) (is_truncated c.run.result (sym c.code.ensures ∙ is)) c.run.ensures.by_bytes
@@ -105,3 +125,50 @@ returns-clause-by_bytes g c settings wants = asked_of _ c.run.result _ c.code.en
 
 pub returns-clause-rest : goal.returns-clause-rest
 returns-clause-rest g c no_fault no_want tells = ready_by c.run.result _ _ (λ e. no_fault (c.code.ensures ∙ e)) (λ e. no_want (c.code.ensures ∙ e)) (λ e. tells (c.code.ensures ∙ e)) c.run.ensures.rest
+
+-- ---- jobs
+
+pub returns-clause-finished : goal.returns-clause-finished
+returns-clause-finished g c settings wants files seen_is base h has earlier led before =
+    let d = g.D.Disk in
+    let p = g.P.Spawner in
+    let k = g.C.Clock in
+    let old = c.args.disk.now in
+    let runs = p.gives (p.rule c.args.spawner.now) in
+    let there = only_files (d.seen old) files (HasHistory base h) seen_is has in
+    let stood = is_stood base h files has in
+    let knows = ap is_some seen_is in
+    elim wants [
+      | inl session ↦
+          let x = c.run.ensures.session settings session base h there in
+          finished_by d.moment d.left_since old c.run.new.disk (setting (is_some (g.S.Source.left c.args.source.now)) (is_some (d.seen old)) (k.gives (k.rule c.args.clock.now)) runs settings.login settings.slots settings.log_limit base)
+          h x.2.holds.added x.0 knows stood x.2.holds.grew x.2.holds.honest x.2.holds.crash_prefix earlier led before
+      | inr serve ↦
+          let x = c.run.ensures.serve settings serve.0 serve.1 base h there in
+          finished_by d.moment d.left_since old c.run.new.disk (setting false (is_some (d.seen old)) (k.gives (k.rule c.args.clock.now)) runs settings.login settings.slots settings.log_limit base)
+          h x.2.holds.added x.0 knows stood x.2.holds.grew x.2.holds.honest x.2.holds.crash_prefix earlier led before
+    ]
+
+pub returns-clause-zero_is_done : goal.returns-clause-zero_is_done
+returns-clause-zero_is_done g c settings wants is files seen_is base h has image left m also =
+    let d = g.D.Disk in
+    let there = only_files (d.seen c.args.disk.now) files (HasHistory base h) seen_is has in
+    let knows = ap is_some seen_is in
+    elim wants [
+      | inl session ↦
+          let x = c.run.ensures.session settings session base h there in
+          session_done _ _ c.run.result _ knows (sym c.code.ensures ∙ is) x.2 image left m also
+      | inr serve ↦
+          let x = c.run.ensures.serve settings serve.0 serve.1 base h there in
+          serve_done _ _ _ _ _ c.run.result _ knows (sym c.code.ensures ∙ is) x.2 image left m also
+    ]
+
+pub returns-clause-session_complete : goal.returns-clause-session_complete
+returns-clause-session_complete g c settings wants files seen_is readable no_read no_write no_disk =
+    subst (λ (r : ℕ). SessionEnds (g.S.Source.left c.args.source.now) r) (sym c.code.ensures)
+    (session_ends files readable _ _ _ _ _ _ _ no_read no_write no_disk c.run.result (c.run.ensures.of_session settings wants).0 (λ why is. ((c.run.ensures.refused why is).1 files seen_is).0) c.run.ensures.by_link c.run.ensures.by_disk c.run.ensures.by_bytes)
+
+pub returns-clause-serve_complete : goal.returns-clause-serve_complete
+returns-clause-serve_complete g c settings connections wants files seen_is readable no_disk no_door =
+    subst (λ (r : ℕ). IsAnswered r ⊎ (r ≡ 8) ⊎ (r ≡ 9)) (sym c.code.ensures)
+    (serve_ends files readable _ _ _ _ _ _ _ no_disk no_door c.run.result (c.run.ensures.of_serve settings connections wants).0 (λ why is. ((c.run.ensures.refused why is).1 files seen_is).0) c.run.ensures.by_disk (c.run.ensures.by_door settings connections wants))
