@@ -1,7 +1,7 @@
 #!/usr/bin/env python3
 """Prints the wanted table of session_rows: `python3 wanted.py > stdout`, and stdin by docs/CONTRIBUTING.md.
 
-Replies are those of tests/model.py, logs are written here by docs/FORMATS.md with Python's `struct` and `hashlib`, and statuses
+Replies are those of tests/model.py, commits those of tests/turns.py, by children that are counted here; logs are written here by docs/FORMATS.md with Python's `struct` and `hashlib`, and statuses
 and counts of calls stand below by hand. Nothing here knows the code.
 """
 import hashlib
@@ -11,7 +11,8 @@ import struct
 import sys
 
 sys.path.insert(0, str(pathlib.Path(__file__).resolve().parents[2] / "tests"))
-from model import ERRORS, PHRASES, Store, http_date  # noqa: E402
+import turns as tasks  # noqa: E402
+from model import ERRORS, PHRASES, Store, http_date, identifier, pieces_size  # noqa: E402
 
 SESSION = "session --login l --store s --at 0"
 SERVE = "serve --login l --store s --at 0 --listen x --connections"
@@ -114,9 +115,83 @@ def log_of_hello(name=b"a"):
     return log(b"\0hello", put_command(name, b"text/plain", 8, 5))
 
 
+def echo(data, otherwise):
+    return tasks.leaves(data, status=7 if otherwise else 0)
+
+
+class Crew:
+    """Children that write what they read: each with its task, the wait that finds its end, and whether it ends the other way."""
+
+    def __init__(self, slots=4, **script):
+        self.slots, self.script, self.live = slots, script, []
+        self.starts, self.waited, self.company, self.waits, self.faults, self.reads = 0, 0, 0, 0, 0, 0
+
+    def fails(self, name, number):
+        if number in self.script.get(name, ()):
+            self.faults += 1
+            return True
+        return False
+
+    def start(self, task):
+        number, self.starts = self.starts, self.starts + 1
+        if self.fails("starts_fail", number):
+            return False
+        delays = self.script.get("waits", ())
+        due = self.waited + (delays[number] if number < len(delays) else 0)
+        self.live.append((task, due, number in self.script.get("otherwise", ())))
+        return True
+
+    def wait(self):
+        """The child that has ended, or the answer of a turn without one."""
+        number, self.waited = self.waited, self.waited + 1
+        if self.live and self.fails("waits_fail", number):
+            self.live.pop(0)
+            return "SpawnFault"
+        for k, child in enumerate(self.live):
+            if child[1] <= number:
+                self.company += len(self.live)
+                return self.live.pop(k)
+        self.waits += 1
+        return "NotYet"
+
+    def take(self, store, child):
+        (number, phase, place), _, otherwise = child
+        job = next(job for job in store.jobs.values() if job.number == number)
+        data = tasks.run_of(store, job, phase, place)[2]
+        if not otherwise:
+            for _ in range(-(-len(data) // 65_536)):  # a read a piece, where there is room for all
+                self.reads += 1
+                if self.fails("reads_fail", self.reads - 1):
+                    return "SpawnFault"
+        return "Committed" if tasks.commit(store, job, phase, place, lambda run, data: echo(data, otherwise)) else "Full"
+
+    def turn(self, store):
+        """What one turn does, by the page of mt_runner."""
+        jobs = sorted(store.jobs.values(), key=lambda job: job.number)
+        ready = [(job.number, *place) for job in jobs for place in job.ready()]
+        self.live = [child for child in self.live if child[0] in ready]
+        waiting = next((job for job in jobs if job.waits()), None)
+        if waiting is not None:
+            return "Closed" if store.close(waiting, False) else "Full"
+        for task in ready:
+            if len(self.live) < self.slots and all(child[0] != task for child in self.live) and not self.start(task):
+                return "SpawnFault"
+        if not self.live:
+            return "Idle"
+        found = self.wait()
+        return found if isinstance(found, str) else self.take(store, found)
+
+    def drain(self, store, tick):
+        last = "Closed"
+        while last in ("Closed", "Committed"):
+            tick()
+            last = self.turn(store)
+        return last
+
+
 class Table:
     def __init__(self):
-        self.store = Store()
+        self.store, self.crew, self.clock = Store(), Crew(), []
 
     def note(self, text):
         print(f"\n# {text}")
@@ -162,10 +237,55 @@ class Table:
         return said
 
     def timed(self, *pairs):
-        """A session whose clock gives a moment for each message."""
+        """A session whose clock gives a moment for each message, and the same for the turn behind it."""
         self.given(*(one for _, one in pairs))
-        print("moments " + " ".join(str(moment) for moment, _ in pairs))
+        print("moments " + " ".join(f"{moment} {moment}" for moment, _ in pairs))
         self.run(SESSION, 0, self.asked_at(*pairs))
+
+    # Sessions and serves with jobs.
+    def script(self, slots=4, **script):
+        """What becomes of the children of the next run."""
+        self.crew = Crew(slots, **script)
+        for name, numbers in script.items():
+            print(" ".join(["children", name.replace("_", "-"), *map(str, numbers)]))
+
+    def moments(self, *moments):
+        self.clock = list(moments)
+        if moments:
+            print("moments " + " ".join(map(str, moments)))
+
+    def tick(self):
+        """The next moment of the clock: the last of its list is given from then on."""
+        if self.clock:
+            self.store.moment = self.clock[0]
+            self.clock = self.clock[1:] or self.clock
+
+    def played(self, messages):
+        """What is said to messages, each with a turn behind it; and how it ended."""
+        said = b""
+        for one in messages:
+            self.tick()
+            said += self.store.ask(one)
+            self.tick()
+            last = self.crew.turn(self.store)
+            if last == "Full":
+                return said, last
+        return said, "Ended"
+
+    def worked(self, *messages, words=SESSION, limit=None):
+        """A session with jobs: its replies, and the status by its last turn."""
+        self.given(*messages)
+        self.store.limit = limit or 1 << 30
+        said, last = self.played(messages)
+        if last == "Ended":
+            last = self.crew.drain(self.store, self.tick)
+        self.run(words + (f" --log-limit {limit}" if limit else ""), STATUSES[last], said)
+        self.counts()
+
+    def counts(self):
+        crew = self.crew
+        answered("counts", f"starts {crew.starts}, live 0, company {crew.company}, waits {crew.waits}, faults {crew.faults}")
+        self.crew, self.clock, self.store.moment = Crew(), [], 0
 
     def refused(self, bad, code, *before):
         """Requests that are answered, and then bytes that are no message."""
@@ -185,21 +305,23 @@ class Table:
         print(f"store {word(head)} {word(one)} {word(two)}")
 
     def stops(self, counts, told=0, opening=OPENING, words=SESSION):
-        """A run of commands that take so many calls each: the last but one opens the gate, the last syncs. One of "reads" adds none."""
+        """A run of commands that take so many calls each: the last but one opens the gate, the last syncs. One of "reads" adds none, and
+        what stands in a list is of a turn: its reads, and its command, of which no reply tells."""
         print(f"stops {words}".ljust(48).rstrip())
         call, said = 0, "none"
         for _ in range(opening):
             print(f"    call {call}: status 5, told none, left" + f" {told}" * 5)
             call += 1
         for count in counts:
-            reads = count == "reads"
-            for k in range(1 if reads else count):
+            by_turn = isinstance(count, list)
+            reads, writes = count if by_turn else (1, 0) if count == "reads" else (0, count)
+            for k in range(reads + writes):
                 # Of a gate that was not synced a crash leaves the byte 1 where it leaves ones or the whole.
-                left = [told, told, told + 1, told, told + 1] if not reads and k >= count - 2 else [told] * 5
+                left = [told, told, told + 1, told, told + 1] if writes and k >= reads + writes - 2 else [told] * 5
                 print(f"    call {call}: status 5, told {said}, left " + " ".join(map(str, left)))
                 call += 1
-            told += 0 if reads else 1
-            said = told
+            told += 1 if writes else 0
+            said = said if by_turn else told
 
 
 def objects(t):
@@ -430,17 +552,17 @@ def clocks(t):
     )
     t.note("What is refused has the moment of its call; and behind the last of a list a clock gives that one.")
     t.given(get("none"), b"GE(T\r\n\r\n")
-    print("moments 300000 300001")
+    print("moments 300000 300000 300001")
     t.run(SESSION, 12, t.asked_at((300_000, get("none"))) + refusal("BadRequest", t.store.count, 300_001))
     t.given(get("none"), get("none"), get("none"))
-    print("moments 300002 300003")
+    print("moments 300002 300002 300003")
     t.run(SESSION, 0, t.asked_at((300_002, get("none")), (300_003, get("none")), (300_003, get("none"))))
-    t.note("The links of a door share one clock.")
+    t.note("The links of a door share one clock, which is asked for each turn of tasks too: behind each message, and in each drain.")
     t.given(put("c"), get("c", since + http_date(400_000)))
     print("link")
     t.given(get("c", since + http_date(400_000)), put("c", b"c"), get("c", since + http_date(400_000)))
     print("link")
-    print("moments 400000 400001 400002 400003 400004")
+    print("moments 400000 0 400001 0 0 400002 0 400003 0 400004")
     t.run(f"{SERVE} 2", 0, links=[
         t.asked_at((400_000, put("c")), (400_001, get("c", since + http_date(400_000)))),
         t.asked_at((400_002, get("c", since + http_date(400_000))), (400_003, put("c", b"c")), (400_004, get("c", since + http_date(400_000)))),
@@ -607,8 +729,233 @@ def turns(t):
     t.session(get("unread"), get("l"))
 
 
+CAT = b'{"phases":[{"exec":"cat"}]}'
+TEXTS = ("in", "out", "fail", "err", "tasks", "status")
+# What a session ends with by its last turn, and a serve.
+STATUSES = {"Idle": 0, "SpawnFault": 6, "NotYet": 7, "Full": 9}
+
+
+def job_path(command, tail=""):
+    """The folder of the job that the command behind so many made."""
+    return f"/l/jobs/{identifier(2, 4_096 * command)}{tail}"
+
+
+def make(document=CAT):
+    return message("POST /l/jobs HTTP/1.1", document)
+
+
+def lines(command, *names):
+    return message(f"POST {job_path(command, '/live/in')} HTTP/1.1", "".join(f"/l/stor/{name}\n" for name in names).encode())
+
+
+def end(command):
+    return message(f"POST {job_path(command, '/live/in/end')} HTTP/1.1")
+
+
+def cancel(command):
+    return message(f"POST {job_path(command, '/live/cancel')} HTTP/1.1")
+
+
+def live(command, *texts):
+    return [message(f"GET {job_path(command, '/live/' + text)} HTTP/1.1") for text in texts or TEXTS]
+
+
+def at(path):
+    return message(f"GET {path} HTTP/1.1")
+
+
+def outputs(t, command):
+    """What the last phase of a job left: each object that its out names."""
+    job = t.store.jobs[identifier(2, 4_096 * command).encode()]
+    return [at(name) for name in job.lines("l", "out")]
+
+
+def jobs(t):
+    t.note("A map job by turns: one behind each message, which commits a task where one is ready, and those of the drain at the end of the session, which close it.")
+    t.new()
+    t.worked(put("a"), make(), lines(1, "a", "a", "none"), end(1))
+    t.worked(*live(1), at(job_path(1)), at(job_path(1, "/out.txt")), *outputs(t, 1))
+    t.note("Behind a message that closes too a turn is taken. Each turn has the moment of a call of its own.")
+    t.new()
+    t.moments(10, 11, 20, 21, 30, 31, 40)
+    t.worked(put("a"), make(), message(f"POST {job_path(1, '/live/in')} HTTP/1.1\nConnection: close", b"/l/stor/a\n"))
+    t.moments(50, 51, 60, 61, 70)
+    t.worked(end(1), *live(1, "status"))
+    t.worked(*live(1, "status"), at(job_path(1, "/stor")))
+    t.note("Two map phases: the task of the second is ready once that of the first is committed.")
+    t.new()
+    t.worked(put("a"), make(b'{"phases":[{"exec":"cat"},{"exec":"cat"}]}'), lines(1, "a"), end(1))
+    t.worked(*live(1, "out", "tasks"), *outputs(t, 1))
+    t.note("A reduce phase over nothing: three tasks, each ready once the input has ended.")
+    t.new()
+    t.worked(make(b'{"phases":[{"type":"reduce","exec":"cat","count":3}]}'), end(0))
+    t.worked(*live(0, "out", "tasks"), *outputs(t, 0))
+    t.note("Commands that take their time: two children are waited for in vain, and a third is committed first. A task of the next phase waits for all.")
+    t.new()
+    t.script(waits=[1, 1, 0])
+    t.worked(put("a", b"1"), put("b", b"2"), put("c", b"3"), make(b'{"phases":[{"exec":"cat"},{"type":"reduce","exec":"cat","count":2}]}'), lines(3, "a", "b", "c"), end(3))
+    t.worked(*live(3, "out", "tasks"), *outputs(t, 3))
+    t.note("One slot: no two live at once.")
+    t.new()
+    t.script(slots=1)
+    t.worked(put("a"), make(), lines(1, "a", "a", "a"), end(1), words=f"{SESSION} --slots 1")
+    t.note("A command that fails.")
+    t.new()
+    t.script(otherwise=[1])
+    t.worked(put("a"), make(), lines(1, "a", "a"), end(1))
+    t.worked(*live(1))
+    t.note("A job that is cancelled while its commands run: the next turn ends them.")
+    t.new()
+    t.script(waits=[100, 100])
+    t.worked(put("a"), make(), lines(1, "a", "a"), *live(1, "status"), cancel(1), *live(1, "status"), lines(1, "a"))
+    t.note("What is read of jobs stands as it was before the turn behind its message.")
+    t.new()
+    t.worked(put("a"), make(), lines(1, "a", "a", "a"), *live(1, "out"), *live(1, "out"), *live(1, "out"), *live(1, "out"))
+
+
+def rooms(t):
+    t.note("A turn without room behind a reply: the message was answered whole, those behind it are not read, and its command runs once there is room. A byte more, and it has.")
+    for more in (-1, 0):
+        t.new()
+        t.worked(put("a"), make(), words=SESSION)
+        grows = 21 + len(lines_command(t, 1, "a")) + pieces_size(5) + 21 + commit_of(5)
+        t.worked(lines(1, "a"), at("/l/stor/a"), limit=t.store.used + grows + more)
+        t.worked(*live(1, "tasks"))
+    t.note("An end of a job without room: in the drain, and behind a reply.")
+    for more in (-1, 0):
+        t.new()
+        t.worked(put("a"), make(), lines(1, "a"))
+        need = t.store.used + 21 + 17 + closing_of(t, 1)
+        t.worked(end(1), limit=need + more)
+        t.worked(*live(1, "status"))
+    t.note("A cancel without room is refused, and the log is as long as before.")
+    t.new()
+    t.worked(put("a"), make())
+    t.worked(cancel(1), *live(1, "status"), limit=t.store.used + 98)
+    t.worked(cancel(1), *live(1, "status"))
+
+
+def lines_command(t, command, *names):
+    """As long as the command of lines is."""
+    return bytes(1 + 8 + 8 + 4) + b"".join(b"\0" + t.store.path_bytes((b"stor", name.encode())) for name in names)
+
+
+def commit_of(size):
+    """How many bytes the command has that commits one output on standard output."""
+    return tasks.commit_size(TABLE.store, [tasks.Record("emit", None, None, bytes(size))], None)[0]
+
+
+def closing_of(t, command):
+    """By how much the end of a job whose input has ended grows the log."""
+    job = t.store.jobs[identifier(2, 4_096 * command).encode()]
+    ended, job.ended, job.done = job.ended, True, 0
+    size = 21 + 98 + sum(pieces_size(len(job.text("l", kind))) for kind in ("err", "fail", "in", "status", "out"))
+    job.ended, job.done = ended, None
+    return size
+
+
+def spawners(t):
+    t.note("Starts that fail: between messages they are counted, and nothing else; in the last turn of the drain they are status 6. The next session commits.")
+    t.new()
+    t.script(starts_fail=[0, 1])
+    t.worked(put("a"), make(), lines(1, "a"), end(1))
+    t.new()
+    t.script(starts_fail=[0, 1, 2])
+    t.worked(put("a"), make(), lines(1, "a"), end(1))
+    t.worked(*live(1, "tasks"))
+    t.note("A wait that fails, and a read of what a command wrote: the task is ready again.")
+    t.new()
+    t.script(waits_fail=[0], reads_fail=[0])
+    t.worked(put("a"), make(), lines(1, "a", "a"), end(1))
+    t.worked(*live(1, "tasks"))
+    t.note("A wait in vain in the last drain is status 7, one before it is none.")
+    for waits in (1, 2, 3):
+        t.new()
+        t.script(waits=[waits])
+        t.worked(put("a"), make(), lines(1, "a"), end(1))
+        t.worked(*live(1, "tasks"))
+
+
+def served(t, status, *links, wanted=None, failing=None, order=None, **script):
+    """A serve with jobs: links of messages, each with a drain behind it, at the status."""
+    for messages in links:
+        t.given(*messages)
+        print("link")
+    t.script(**script)
+    if failing is not None:
+        print(f"fail door {failing}")
+    said, last = [], "Idle"
+    for messages in links[:failing]:
+        replies, end = t.played(messages)
+        said.append(replies)
+        last = end if end == "Full" else t.crew.drain(t.store, t.tick)
+        if last == "Full":
+            break
+    t.run(f"{SERVE} {wanted or len(links)}", status, links=said)
+    t.counts()
+
+
+def ordered(t, status, order, *links, limit=None, **script):
+    """A serve with jobs whose door tells nothing: a drain behind each turn of a link, and behind each waking."""
+    clients(t, *links)
+    t.script(**script)
+    print("order " + " ".join(map(str, order)))
+    t.store.limit = limit or 1 << 30
+    said, left = [b""] * len(links), [list(pieces) for pieces in links]
+    for what in order:
+        end = "Ended"
+        if what != "wake":
+            replies, end = t.played(left[what - 1].pop(0))
+            said[what - 1] += replies
+        if end == "Full" or t.crew.drain(t.store, t.tick) == "Full":
+            break
+    t.run(f"{SERVE} {len(links)}" + (f" --log-limit {limit}" if limit else ""), status, links=said)
+    t.counts()
+
+
+def drains(t):
+    t.note("Links with jobs: a turn behind each message, and a drain behind each link.")
+    t.new()
+    served(t, 0, [put("a"), make(), lines(1, "a", "a")], [*live(1, "out")], [end(1)], [*live(1, "status")])
+    t.note("A command that runs on behind the first link, and is done behind the second; and one that still runs behind the last: 7.")
+    t.new()
+    served(t, 0, [put("a"), make(), lines(1, "a")], [*live(1, "tasks")], [*live(1, "tasks")], waits=[2])
+    t.new()
+    served(t, 7, [put("a"), make(), lines(1, "a")], [*live(1, "tasks")], waits=[100])
+    t.note("Starts that fail behind the last link are status 6, and a door that fails is 10, whatever the drains behind its links did.")
+    t.new()
+    served(t, 6, [put("a"), make(), lines(1, "a")], starts_fail=[0, 1])
+    t.new()
+    served(t, 10, [put("a"), make(), lines(1, "a")], [*live(1, "tasks")], [put("unread")], failing=2, waits=[100])
+    t.worked(*live(1, "tasks"))
+    t.note("A door that wakes: each waking has a drain, which takes what has ended.")
+    t.new()
+    ordered(t, 0, [1, "wake", "wake", 2, 1, "wake", 2], [[put("a"), make(), lines(1, "a", "a")], [*live(1, "tasks"), end(1)]], [[*live(1, "tasks")], [*live(1, "status")]], waits=[3, 4])
+    t.note("A drain without room behind a waking, and behind a link: 9, and no link comes behind it.")
+    for order, waits in (([1, "wake", 1], [2]), ([1, 2, 1], [2]), ([1, 1], [1])):
+        t.new()
+        t.worked(put("a"), make())
+        grows = 21 + len(lines_command(t, 1, "a")) + pieces_size(5) + 21 + commit_of(5)
+        links = [[[lines(1, "a")], [put("unread")]], [[at("/l/stor/a")]]]
+        ordered(t, 9, order, *links[:max(what for what in order if what != "wake")], limit=t.store.used + grows - 1, waits=waits)
+        t.worked(*live(1, "tasks"))
+
+
+def job_stops(t):
+    t.note("Each call of the disk fails in turn, of a session that makes a job, works its one task behind the message of its input, and closes it behind that of its end. A task is read by one call, its output is a piece; of the texts of the job three are pieces.")
+    t.new()
+    t.given(put("a"), make(), lines(1, "a"), end(1))
+    t.stops([8, 6, 6, [1, 8], 6, [0, 12]])
+    t.note("The same of a link with a commit behind its message.")
+    t.new()
+    t.worked(put("a"), make())
+    t.given(lines(1, "a"))
+    print("link")
+    t.stops([6, [1, 8]], told=2, opening=REOPENING, words=f"{SERVE} 1")
+
+
 def main():
-    for part in (objects, routes, words, stores, limits, crashes, clocks, ends, serves, turns):
+    for part in (objects, routes, words, stores, limits, crashes, clocks, ends, serves, turns, jobs, rooms, spawners, drains, job_stops):
         part(TABLE)
 
 

@@ -1,13 +1,15 @@
 //! Sessions and serves over one disk, each with requests, faults and a crash of its own.
+use crate::children::{Counts, set_script};
 use crate::links::Links;
 use crate::picks::picks_of;
 use crate::stops::{Attempt, put_stops};
 use crate::store::{Ends, Files, Left, run_over};
 use mt_disk::{CrashError, MemDisk, Pick};
 use mt_rows::{Row, Rows, Stop, unescaped};
+use mt_spawn::Script;
 use std::alloc::Global;
 
-/// What the next session begins with, and how many calls of the disk the last one made. What fails, and what a crash
+/// What the next session begins with, how many calls of the disk the last one made, and what was counted of its children. What fails, and what a crash
 /// leaves, is of that session alone.
 #[derive(Drop)]
 pub struct Sessions {
@@ -17,6 +19,7 @@ pub struct Sessions {
     disk_fails: Vec<u64>,
     picks: Vec<Pick>,
     calls: u64,
+    counts: Counts,
 }
 
 impl Sessions {
@@ -29,6 +32,7 @@ impl Sessions {
             disk_fails: Vec::new(alloc),
             picks: Vec::new(alloc),
             calls: 0,
+            counts: Counts::none(),
         }
     }
 
@@ -61,6 +65,15 @@ impl Sessions {
 
     fn set_moments(&mut self, alloc: Global, row: &Row) -> Result<(), Stop> {
         self.ends.moments = row.numbers(alloc, 1)?;
+        Ok(())
+    }
+
+    fn set_script(&mut self, alloc: Global, row: &Row) -> Result<(), Stop> {
+        set_script(alloc, &mut self.ends.script, row)
+    }
+
+    fn put_counts(&self, out: &mut String) -> Result<(), Stop> {
+        self.counts.put(out)?;
         Ok(())
     }
 
@@ -141,6 +154,7 @@ impl Sessions {
     fn take(&mut self, alloc: Global, left: Left, out: &mut String) -> Result<(), Stop> {
         left.put(out)?;
         self.calls = left.disk.calls();
+        self.counts = left.counts;
         let image = left.disk.crash(&self.picks);
         self.keep(alloc, image, out)?;
         self.forget_faults(alloc);
@@ -165,6 +179,7 @@ impl Sessions {
         self.ends.reads_fail.clear();
         self.ends.writes_fail.clear();
         self.ends.moments.clear();
+        self.ends.script = Script::new(alloc);
         self.links = Links::new(alloc);
         self.disk_fails.clear();
         self.picks.clear();
@@ -197,9 +212,11 @@ impl Rows for Sessions {
             ">" | ">|" => self.add_request(alloc, line),
             "fail" => self.set_failing(alloc, row),
             "moments" => self.set_moments(alloc, row),
+            "children" => self.set_script(alloc, row),
             "crash" => self.set_picks(alloc, row),
             "run" => self.run(alloc, row, out),
             "calls" => self.put_calls(out),
+            "counts" => self.put_counts(out),
             "files" => self.put_files(out),
             "stops" => self.put_stops(alloc, row, out),
             _ => Err(Stop::NoSuchRow),

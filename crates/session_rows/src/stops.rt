@@ -26,7 +26,7 @@ const PICKS: [Pick; 5] = [
 ];
 
 /// More than all calls between two syncs.
-const MOST_PICKS: usize = 8;
+const MOST_PICKS: usize = 12;
 
 // The last position that these replies name, as it is written.
 fn position_in(replies: &[u8]) -> &[u8] {
@@ -96,13 +96,19 @@ fn stopped(alloc: Global, run: &Attempt<'_>, fails: &[u64]) -> Result<Left, Stop
     run_over(alloc, run.words, run.files, run.ends, run.links, fails)
 }
 
-// What a crash leaves of such a run where it leaves so much of as many calls as it may.
-fn image_of(alloc: Global, run: &Attempt<'_>, call: u64, pick: Pick) -> Result<Files, Stop> {
+// What a crash leaves of such a run where it leaves so much of as many calls as it may, all but so many at least; and but how many.
+fn image_of(
+    alloc: Global,
+    run: &Attempt<'_>,
+    call: u64,
+    pick: Pick,
+    least: usize,
+) -> Result<(Files, usize), Stop> {
     let picks = [pick; MOST_PICKS];
-    for fewer in 0..MOST_PICKS {
+    for fewer in least..MOST_PICKS {
         let left = stopped(alloc, run, &[call])?;
         match left.disk.crash(picks.get(fewer..).unwrap_or(&[])) {
-            Ok(image) => return Ok(Files::of(alloc, &image)?),
+            Ok(image) => return Ok((Files::of(alloc, &image)?, fewer)),
             Err(CrashError::NotAnImage) => {}
             Err(CrashError::Memory) => return Err(Stop::Memory),
         }
@@ -116,8 +122,10 @@ fn put_stop(alloc: Global, run: &Attempt<'_>, call: u64, out: &mut String) -> Re
     write!(out, "\n    call {call}: status {}, told", first.status)?;
     put_word(out, last_told(&first))?;
     out.push_str(", left")?;
+    let mut least = 0;
     for pick in PICKS {
-        let image = image_of(alloc, run, call, pick)?;
+        let (image, fewer) = image_of(alloc, run, call, pick, least)?;
+        least = fewer;
         put_found(alloc, &image, out)?;
     }
     Ok(())

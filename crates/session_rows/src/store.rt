@@ -1,12 +1,13 @@
 //! The files of a store, what is read from and written to, and one run over them.
 ghost use Rattle.std.specs.Prelude.{◌≡◌, ◌<◌, [], length};
 
+use crate::children::{Counts, Echo, copied};
 use crate::links::Links;
 use mt_disk::{FileNo, MemDisk, Room};
 use mt_edge::{LAST_MOMENT, MemClock, MemDoor, MemSink, MemSource};
 use mt_rows::{Row, Stop, put_line, put_lines};
 use mt_server::mantad;
-use mt_spawn::NoSpawner;
+use mt_spawn::{MemSpawner, Script};
 use std::alloc::{AllocError, Global};
 
 /// The room of a session's disk.
@@ -66,23 +67,25 @@ impl Files {
     }
 }
 
-/// What is read, how reads and writes fail, counted from 0, and the moments of the clock, one a call.
+/// What is read, how reads and writes fail, counted from 0, the moments of the clock, one a call, and what becomes of children.
 #[derive(Drop)]
 pub struct Ends {
     pub requests: Vec<u8>,
     pub reads_fail: Vec<u64>,
     pub writes_fail: Vec<u64>,
     pub moments: Vec<u64>,
+    pub script: Script,
 }
 
 impl Ends {
-    /// Nothing is read, nothing fails, and it is always 1970.
+    /// Nothing is read, nothing fails, it is always 1970, and each child ends at the first wait.
     pub fn new(alloc: Global) -> Ends {
         Ends {
             requests: Vec::new(alloc),
             reads_fail: Vec::new(alloc),
             writes_fail: Vec::new(alloc),
             moments: Vec::new(alloc),
+            script: Script::new(alloc),
         }
     }
 
@@ -93,6 +96,7 @@ impl Ends {
             reads_fail: Vec::from_slice(alloc, &self.reads_fail)?,
             writes_fail: Vec::from_slice(alloc, &self.writes_fail)?,
             moments: Vec::from_slice(alloc, &self.moments)?,
+            script: copied(alloc, &self.script)?,
         })
     }
 
@@ -131,6 +135,8 @@ pub struct Left {
     pub disk: MemDisk,
     /// What was written to each link that was given back.
     pub said: Vec<Vec<u8>>,
+    /// What was counted of children.
+    pub counts: Counts,
 }
 
 impl Left {
@@ -178,13 +184,14 @@ fn run_told(
     let mut sink = ends.sink(alloc)?;
     let mut disk = MemDisk::new(alloc, head, one, two, ROOM, disk_fails)?;
     let mut door = MemDoor::new(alloc, links.waiting(alloc)?)?.failing(links.failing(alloc)?);
+    let mut spawner = MemSpawner::new(alloc, Echo, copied(alloc, &ends.script)?);
     let status = mantad(
         alloc,
         words,
         &mut source,
         &mut sink,
         &mut disk,
-        &mut NoSpawner::new(),
+        &mut spawner,
         &mut ends.clock(alloc)?,
         &mut door,
     );
@@ -194,6 +201,7 @@ fn run_told(
         sink,
         disk,
         said,
+        counts: Counts::of(&spawner),
     })
 }
 
@@ -213,13 +221,14 @@ fn run_untold(
     let mut sink = ends.sink(alloc)?;
     let mut disk = MemDisk::new(alloc, head, one, two, ROOM, disk_fails)?;
     let mut door = links.turns(alloc)?;
+    let mut spawner = MemSpawner::new(alloc, Echo, copied(alloc, &ends.script)?);
     let status = mantad(
         alloc,
         words,
         &mut source,
         &mut sink,
         &mut disk,
-        &mut NoSpawner::new(),
+        &mut spawner,
         &mut ends.clock(alloc)?,
         &mut door,
     );
@@ -229,6 +238,7 @@ fn run_untold(
         sink,
         disk,
         said,
+        counts: Counts::of(&spawner),
     })
 }
 
