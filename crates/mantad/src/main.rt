@@ -1,32 +1,41 @@
-//! `mantad`: the store over files, standard input and standard output, or over the connections to an address. It makes the objects and
-//! calls `mt_server`.
+//! `mantad`: the store over files, standard input and standard output, or over the connections to an address, with tasks under a
+//! shell. It makes the objects and calls `mt_server`.
 //!
-//! - `tell`: what is said on standard error.
+//! - `tell`: what is said on standard error. `helper`: where the program of the helpers is.
 #![tactic(auto)]
 
+mod helper;
 mod tell;
 
-ghost use Rattle.std.specs.Prelude.{◌≡◌, ◌≤◌, ◌+◌, IfSome};
+ghost use Rattle.std.specs.Prelude.{◌≡◌, ◌≤◌, ◌+◌, [], IfOk, IfSome, None};
 ghost use Rattle.std.specs.Option.{ForSome};
 ghost use Rattle.mt_base.specs.declared.limits.TheConstants.{LAST_MOMENT};
 ghost use Rattle.mt_disk.specs.CrashModel.{IsAtRest};
 ghost use Rattle.mt_log.specs.LogImage.{Fit};
+ghost use Rattle.mt_children.specs.State.{first_state};
 
-use mt_adapters::{FileDisk, Standard, StdSink, StdSource, SystemClock, TcpDoor, words_of};
+use helper::helper_of;
+use mt_adapters::{FileDisk, Standard, StdSink, StdSource, SystemClock, TcpDoor, Wakes, words_of};
+use mt_children::ShSpawner;
 use mt_disk::{Disk, MemDisk, Room};
 use mt_edge::{Clock, Door, FixedClock, NoDoor};
 use mt_server::mantad;
 use mt_settings::{Mode, Settings, SettingsError};
-use mt_spawn::NoSpawner;
+use mt_spawn::{NoSpawner, Spawner};
 use std::alloc::{AllocError, Global};
 use std::process::ExitCode;
-use tell::{tell_door, tell_status, tell_usage};
+use std::rc::Rc;
+use std::time::Duration;
+use tell::{tell_door, tell_status, tell_tasks, tell_usage};
 
 /// The status where memory is wanted before the store is called.
 const OUT_OF_MEMORY: u8 = 8;
 
 /// The status where the door failed.
 const NO_LINK: u8 = 10;
+
+/// How many seconds a serve that is over waits for a task to end, before it leaves the rest to the next start.
+const PATIENCE: u64 = 60;
 
 /// The room of the disk that stands for a store where the words name none. Nothing is written to it.
 const NO_STORE: Room = Room {
@@ -36,10 +45,11 @@ const NO_STORE: Room = Room {
 };
 
 // Calls the store over these ends, and standard input and output.
-fn call<D: Disk, C: Clock, W: Door>(
+fn call<D: Disk, P: Spawner, C: Clock, W: Door>(
     rt: HostRuntime,
     words: &[String],
     disk: &mut D,
+    spawner: &mut P,
     clock: &mut C,
     door: &mut W,
 ) -> Result<u8, AllocError>
@@ -47,60 +57,102 @@ fn call<D: Disk, C: Clock, W: Door>(
     requires fit { ForSome (D.seen disk.old) Fit }
     requires door { W.over door.old + W.kept door.old ≡ W.taken door.old }
     requires none_kept { W.kept door.old ≡ 0 }
+    requires idle { (P.seen spawner.old).live ≡ [] }
+    requires free { P.held spawner.old ≡ None }
 {
     let alloc = rt.alloc();
     let mut source = StdSource::new(alloc, rt.stdin())?;
     let mut sink = StdSink::over(rt.stdout());
-    let mut spawner = NoSpawner::new();
     Ok(mantad(
         alloc,
         words,
         &mut source,
         &mut sink,
         disk,
-        &mut spawner,
+        spawner,
         clock,
         door,
     ))
 }
 
 // Calls the store at the one moment that the words ask for, or by the system's time.
-fn call_at<D: Disk, W: Door>(
+fn call_at<D: Disk, P: Spawner, W: Door>(
     rt: HostRuntime,
     words: &[String],
     at: Option<u64>,
     disk: &mut D,
+    spawner: &mut P,
     door: &mut W,
 ) -> Result<u8, AllocError>
     requires rest { IsAtRest D.seen D.may_leave disk.old }
     requires fit { ForSome (D.seen disk.old) Fit }
     requires door { W.over door.old + W.kept door.old ≡ W.taken door.old }
     requires none_kept { W.kept door.old ≡ 0 }
+    requires idle { (P.seen spawner.old).live ≡ [] }
+    requires free { P.held spawner.old ≡ None }
     requires moment { IfSome at (λ moment. moment ≤ LAST_MOMENT) }
 {
     match at {
-        Some(moment) => call(rt, words, disk, &mut FixedClock::new(moment), door),
-        None => call(rt, words, disk, &mut SystemClock::new(rt), door),
+        Some(moment) => call(rt, words, disk, spawner, &mut FixedClock::new(moment), door),
+        None => call(rt, words, disk, spawner, &mut SystemClock::new(rt), door),
     }
 }
 
-// Calls the store over the connections to an address.
+// Tasks under a shell, in the folder and with the helpers that the words ask for.
+fn tasks_of(
+    rt: HostRuntime,
+    words: &[String],
+    settings: &Settings,
+) -> Result<ShSpawner<HostRuntime>, AllocError>
+    ensures { IfOk result (λ s. s ≡ first_state) }
+{
+    let alloc = rt.alloc();
+    let helper = helper_of(rt, words, settings.helper.as_str())?;
+    let work = settings.work.as_str();
+    ShSpawner::new(alloc, rt, work, helper.as_str(), settings.login.as_str())
+}
+
+// Calls the store over standard input and output.
+fn session<D: Disk>(
+    rt: HostRuntime,
+    words: &[String],
+    settings: &Settings,
+    disk: &mut D,
+) -> Result<u8, AllocError>
+    requires rest { IsAtRest D.seen D.may_leave disk.old }
+    requires fit { ForSome (D.seen disk.old) Fit }
+    requires moment { IfSome settings.now.at (λ moment. moment ≤ LAST_MOMENT) }
+{
+    let mut spawner = tasks_of(rt, words, settings)?;
+    let mut door = NoDoor::new();
+    let status = call_at(rt, words, settings.at, disk, &mut spawner, &mut door)?;
+    tell_tasks(&rt, status, spawner.failure());
+    Ok(status)
+}
+
+// Calls the store over the connections to an address. A child that ends wakes the door.
 fn serve<D: Disk>(
     rt: HostRuntime,
     words: &[String],
-    at: Option<u64>,
+    settings: &Settings,
     disk: &mut D,
     listen: &str,
 ) -> Result<u8, AllocError>
     requires rest { IsAtRest D.seen D.may_leave disk.old }
     requires fit { ForSome (D.seen disk.old) Fit }
-    requires moment { IfSome at (λ moment. moment ≤ LAST_MOMENT) }
+    requires moment { IfSome settings.now.at (λ moment. moment ≤ LAST_MOMENT) }
 {
-    let mut door = TcpDoor::new(rt.alloc(), rt, listen)?;
-    let status = call_at(rt, words, at, disk, &mut door)?;
+    let alloc = rt.alloc();
+    let wakes = Rc::new(alloc, Wakes::new())?;
+    let mut door = TcpDoor::new(alloc, rt, listen)?.waking(wakes.clone()?);
+    let mut spawner = tasks_of(rt, words, settings)?
+        .within(Duration::from_secs(PATIENCE))
+        .waking(wakes);
+    let status = call_at(rt, words, settings.at, disk, &mut spawner, &mut door)?;
     if status == NO_LINK {
         tell_door(&rt, listen, door.failure());
     }
+    tell_tasks(&rt, status, spawner.failure());
     Ok(status)
 }
 
@@ -111,8 +163,8 @@ fn call_on_files(rt: HostRuntime, words: &[String], settings: &Settings) -> Resu
     let store = settings.store.as_str();
     let mut disk = FileDisk::new(rt.alloc(), rt, store)?;
     let status = match &settings.mode {
-        Mode::Session => call_at(rt, words, settings.at, &mut disk, &mut NoDoor::new())?,
-        Mode::Serve { listen, .. } => serve(rt, words, settings.at, &mut disk, listen.as_str())?,
+        Mode::Session => session(rt, words, settings, &mut disk)?,
+        Mode::Serve { listen, .. } => serve(rt, words, settings, &mut disk, listen.as_str())?,
     };
     tell_status(&rt, status, store, disk.failure());
     Ok(status)
@@ -127,7 +179,15 @@ fn run(rt: HostRuntime) -> Result<u8, AllocError> {
         Err(SettingsError::Usage(fault)) => {
             tell_usage(&rt, &words, fault);
             let mut disk = MemDisk::new(alloc, b"", b"", b"", NO_STORE, &[])?;
-            call_at(rt, &words, None, &mut disk, &mut NoDoor::new())
+            let mut spawner = NoSpawner::new();
+            call_at(
+                rt,
+                &words,
+                None,
+                &mut disk,
+                &mut spawner,
+                &mut NoDoor::new(),
+            )
         }
         Err(SettingsError::Memory) => Err(AllocError),
     }

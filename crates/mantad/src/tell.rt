@@ -1,5 +1,6 @@
 //! What the program says on standard error: the word that is wrong, and the cause of each status above 2.
 use mt_adapters::Failure;
+use mt_children::TaskFault;
 use mt_settings::UsageFault;
 use std::io;
 
@@ -8,10 +9,10 @@ fn say(rt: &HostRuntime, line: &str) {
     let _ = eprintln!(rt; "mantad: {line}");
 }
 
-/// Says why the store ended with a status above 2, but for that of the door.
+/// Says why the store ended with a status above 2, but for those of the door and of tasks.
 pub(crate) fn tell_status(rt: &HostRuntime, status: u8, store: &str, failure: Option<&Failure>) {
     match status {
-        0 | 1 | 2 | 10 => {}
+        0 | 1 | 2 | 6 | 7 | 9 | 10 => {}
         3 => say(rt, "standard input can't be read"),
         4 => say(rt, "standard output can't be written to"),
         5 => tell_disk(rt, store, failure),
@@ -28,6 +29,24 @@ pub(crate) fn tell_status(rt: &HostRuntime, status: u8, store: &str, failure: Op
         _ => {
             let _ = eprintln!(rt; "mantad: status {status}");
         }
+    }
+}
+
+/// Says what is to be done where tasks have not ended, or the log has no room for what they made.
+pub(crate) fn tell_tasks(rt: &HostRuntime, status: u8, failure: Option<&TaskFault>) {
+    match (status, failure) {
+        (6, Some(failure)) => {
+            let _ = eprintln!(rt;
+                "mantad: tasks wait that could not be started or looked at: {failure}; mend that and start again"
+            );
+        }
+        (6, None) => say(rt, "tasks wait that could not be started or looked at"),
+        (7, _) => say(rt, "tasks have not ended; start again to go on"),
+        (9, _) => say(
+            rt,
+            "the log has no room for the end of a task or a job; start again with a larger --log-limit, or cancel the job in a session",
+        ),
+        _ => {}
     }
 }
 
