@@ -184,10 +184,16 @@ def read_text_path(login, text):
         return None
 
 
-MOST_LINES, MOST_ASSET_BYTES, LONGEST_ROOT = 1_000_000, 1 << 24, 200
+MOST_LINES, MOST_ASSET_BYTES, LONGEST_ROOT, MOST_NESTED = 1_000_000, 1 << 24, 200, 127
 TEXT_TYPES = {"err": "application/x-json-stream", "fail": "text/plain", "in": "text/plain", "status": JSON, "out": "text/plain",
               "tasks": "application/x-json-stream"}
 ARCHIVE = (("err", b"err.txt"), ("fail", b"fail.txt"), ("in", b"in.txt"), ("status", b"job.json"), ("out", b"out.txt"))
+
+
+def depth(value):
+    """How many lists and objects lie within each other."""
+    inner = value.values() if isinstance(value, dict) else value if isinstance(value, list) else None
+    return 0 if inner is None else 1 + max(map(depth, inner), default=0)
 
 
 def read_document(login, body):
@@ -202,6 +208,7 @@ def read_document(login, body):
         value = json.loads(body.decode(), parse_constant=whole)
     except (ValueError, RecursionError):
         bad()
+    bad(depth(value) > MOST_NESTED)
     bad(not isinstance(value, dict) or not isinstance(value.get("phases"), list) or not 1 <= len(value["phases"]) <= 16)
     is_line = lambda text, least: isinstance(text, str) and least <= len(text.encode()) <= 65_536 and "\0" not in text
     phases = []
