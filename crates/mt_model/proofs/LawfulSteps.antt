@@ -28,7 +28,7 @@ use Rattle.mt_types.specs.declared.upload.Upload.{Upload}
 use Rattle.mt_model.specs.CommandStep.{allowed, change, linked, put_object, step}
 use Rattle.mt_model.specs.JobSteps.{add_inputs_refusal, archive_bodies, close, close_refusal, commit, commit_refusal, done_at, job_refusal, resolve_task, task_root, with_entry, finish_refusal, input_refusal, running_refusal, with_end, with_lines}
 use Rattle.mt_model.specs.Lawful.{HasFolders, IsBelow, Lawful, LawfulJob, LawfulRows, LawfulUpload}
-use Rattle.mt_types.specs.declared.limits.TheConstants.{LARGEST_BODY, MOST_COMMANDS}
+use Rattle.mt_types.specs.declared.limits.TheConstants.{LARGEST_JOINED, MOST_COMMANDS}
 use Rattle.mt_model.specs.Limits.{most_inputs}
 use Rattle.mt_model.specs.Names.{number_at}
 use Rattle.mt_model.specs.Rows.{Rows, at, first_refusal, first_rows, is_path, link_refusal, object_at, object_in, put_refusal, refuse_if, with_row, without_row}
@@ -228,8 +228,8 @@ module _ {B : Type 0} (size : B → ℕ) (s : State B) (law : Lawful s) where
       let up : LawfulUpload s.count u = good u refl in
       let open_yet = neither (refuse_if (not (is_open u.stage)) UploadState) (commit_upload_refusal size s.rows parts u) e in
       let there = neither (refuse_if (not (list_all (is_listed u.parts) (enumerate_from 0 parts))) UploadPart)
-      (first_refusal (refuse_if (nat_lt LARGEST_BODY (sum_by (λ p. size p.body) (listed u.parts parts))) UploadTooLarge) (put_refusal s.rows u.path)) open_yet.1 in
-      let fits_body = neither (refuse_if (nat_lt LARGEST_BODY (sum_by (λ p. size p.body) (listed u.parts parts))) UploadTooLarge) (put_refusal s.rows u.path) there.1 in
+      (first_refusal (refuse_if (nat_lt LARGEST_JOINED (sum_by (λ p. size p.body) (listed u.parts parts))) UploadTooLarge) (put_refusal s.rows u.path)) open_yet.1 in
+      let fits_body = neither (refuse_if (nat_lt LARGEST_JOINED (sum_by (λ p. size p.body) (listed u.parts parts))) UploadTooLarge) (put_refusal s.rows u.path) there.1 in
       let free = fits_body.1 in
       let outside : is_jobs u.path.area ≡ false = (or_none _ _ up.place).0 in
       let x : Object B = upload_object (number_at s.count 0) u body moment in

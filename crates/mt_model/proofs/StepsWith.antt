@@ -28,7 +28,7 @@ use Rattle.mt_model.specs.CommandStep.{allowed, change, linked, outside_jobs, pu
 use Rattle.mt_model.specs.Feed.{feed}
 use Rattle.mt_model.specs.JobSteps.{add_inputs_refusal, add_job, archive_bodies, archive_names, archive_object, bodies_of, close, close_refusal, commit, commit_refusal, committed, done_at, finish_refusal, has_large_assets, input_refusal, job_refusal, lacks_asset, new_job, new_job_refusal, resolve_task, running_refusal, task_root, with_archive_from, with_folders, with_line, with_lines, with_named}
 use Rattle.mt_model.specs.Limits.{most_asset_bytes, most_inputs}
-use Rattle.mt_types.specs.declared.limits.TheConstants.{LARGEST_BODY}
+use Rattle.mt_types.specs.declared.limits.TheConstants.{LARGEST_JOINED}
 use Rattle.mt_model.specs.Names.{in_job_folder, job_folder, job_stor, number_at}
 use Rattle.mt_model.specs.Resolve.{Resolved, is_object_at, resolve}
 use Rattle.mt_model.specs.Rows.{Rows, first_refusal, object_at, put_refusal, refuse_if, with_row}
@@ -213,10 +213,10 @@ module _ {A B : Type 0} (f : A → B) where
 
   commit_upload_refusal-with : (size : B → ℕ) (rows : Rows A) (numbers : List ℕ) (u : Upload A) → commit_upload_refusal size (rows_with f rows) numbers (upload_with f u) ≡ commit_upload_refusal (λ a. size (f a)) rows numbers u
   commit_upload_refusal-with size rows numbers u =
-      ap (λ t. first_refusal (refuse_if (not (list_all t (enumerate_from 0 numbers))) refusal.UploadPart) (first_refusal (refuse_if (nat_lt LARGEST_BODY (sum_by (λ p. size p.body) (listed (map (part_with f) u.parts) numbers))) refusal.UploadTooLarge) (put_refusal (rows_with f rows) u.path))) (same_function (is_listed (map (part_with f) u.parts)) (is_listed u.parts) (is_listed-with u.parts))
-      ∙ ap (λ n. first_refusal (refuse_if (not (list_all (is_listed u.parts) (enumerate_from 0 numbers))) refusal.UploadPart) (first_refusal (refuse_if (nat_lt LARGEST_BODY n) refusal.UploadTooLarge) (put_refusal (rows_with f rows) u.path)))
+      ap (λ t. first_refusal (refuse_if (not (list_all t (enumerate_from 0 numbers))) refusal.UploadPart) (first_refusal (refuse_if (nat_lt LARGEST_JOINED (sum_by (λ p. size p.body) (listed (map (part_with f) u.parts) numbers))) refusal.UploadTooLarge) (put_refusal (rows_with f rows) u.path))) (same_function (is_listed (map (part_with f) u.parts)) (is_listed u.parts) (is_listed-with u.parts))
+      ∙ ap (λ n. first_refusal (refuse_if (not (list_all (is_listed u.parts) (enumerate_from 0 numbers))) refusal.UploadPart) (first_refusal (refuse_if (nat_lt LARGEST_JOINED n) refusal.UploadTooLarge) (put_refusal (rows_with f rows) u.path)))
       (ap (sum_by (λ p. size p.body)) (listed-with u.parts numbers) ∙ sum_by-map (part_with f) (λ p. size p.body) (listed u.parts numbers))
-      ∙ ap (λ r. first_refusal (refuse_if (not (list_all (is_listed u.parts) (enumerate_from 0 numbers))) refusal.UploadPart) (first_refusal (refuse_if (nat_lt LARGEST_BODY (sum_by (λ p. size (f p.body)) (listed u.parts numbers))) refusal.UploadTooLarge) r)) (put_refusal-with f rows u.path)
+      ∙ ap (λ r. first_refusal (refuse_if (not (list_all (is_listed u.parts) (enumerate_from 0 numbers))) refusal.UploadPart) (first_refusal (refuse_if (nat_lt LARGEST_JOINED (sum_by (λ p. size (f p.body)) (listed u.parts numbers))) refusal.UploadTooLarge) r)) (put_refusal-with f rows u.path)
 
   add_upload-with : (s : State A) (p : AccountPath) (t : List ℕ) (moment : ℕ) → add_upload (state_with f s) p t moment ≡ state_with f (add_upload s p t moment)
   add_upload-with s p t moment = ap (λ us. record (state_with f s) { uploads = us }) (sym (map-append (upload_with f) s.uploads _))

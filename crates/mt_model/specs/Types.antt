@@ -19,7 +19,7 @@ pub use Rattle.mt_types.specs.declared.job.Job.{Job}
 pub use Rattle.mt_types.specs.declared.job.Outcome.{Outcome}
 pub use Rattle.mt_types.specs.declared.job.Task.{Task}
 pub use Rattle.mt_types.specs.declared.job.TraceEntry.{TraceEntry}
-pub use Rattle.mt_types.specs.declared.limits.TheConstants.{LARGEST_BODY, LAST_PART, LONGEST_STDERR, MOST_COMMANDS, MOST_RECORDS, NUMBERS_A_COMMAND}
+pub use Rattle.mt_types.specs.declared.limits.TheConstants.{LARGEST_JOINED, LAST_PART, LONGEST_STDERR, MOST_COMMANDS, MOST_RECORDS, NUMBERS_A_COMMAND}
 pub use Rattle.mt_types.specs.declared.object.Entry.{Entry}
 pub use Rattle.mt_types.specs.declared.object.Field.{Field}
 pub use Rattle.mt_types.specs.declared.object.Object.{Object}

@@ -3,7 +3,7 @@ use Rattle.std.specs.Prelude.{ℕ, ◌==◌, Bool, true, false, not, ◌||◌, n
 use Rattle.std.specs.List.{enumerate_from, filter_map, find, list_all, sum_by}
 use Rattle.std.specs.Option.{option_map_or}
 use Rattle.std.specs.Ordering.{match_ordering, nat_cmp}
-use Rattle.mt_model.specs.Types.{Aborted, AccountPath, Area, Committed, Jobs, LARGEST_BODY, Object, Open, PartRow, Public, Refusal, RootDirectory, Stage, Stor, Upload, UploadNotFound, UploadPart, UploadState, UploadTooLarge}
+use Rattle.mt_model.specs.Types.{Aborted, AccountPath, Area, Committed, Jobs, LARGEST_JOINED, Object, Open, PartRow, Public, Refusal, RootDirectory, Stage, Stor, Upload, UploadNotFound, UploadPart, UploadState, UploadTooLarge}
 use Rattle.mt_types.specs.declared.object.Entry.TheVariants as entry
 use Rattle.mt_model.specs.Names.{number_at}
 use Rattle.mt_model.specs.Rows.{Rows, first_refusal, is_root, put_refusal, refuse_if, with_row}
@@ -57,7 +57,7 @@ module _ {B : Type 0} where
   abbrev pub commit_upload_refusal : (B → ℕ) → Rows B → List ℕ → Upload B → Option Refusal
   commit_upload_refusal size rows numbers u =
       first_refusal (refuse_if (not (list_all (is_listed u.parts) (enumerate_from 0 numbers))) UploadPart)
-      (first_refusal (refuse_if (nat_lt LARGEST_BODY (sum_by (λ p. size p.body) (listed u.parts numbers))) UploadTooLarge)
+      (first_refusal (refuse_if (nat_lt LARGEST_JOINED (sum_by (λ p. size p.body) (listed u.parts numbers))) UploadTooLarge)
       (put_refusal rows u.path))
 
   -- an upload that takes no more parts

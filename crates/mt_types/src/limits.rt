@@ -48,8 +48,11 @@ pub const LARGEST_OUTPUT: u64 = 16_777_216;
 /// The last index of a part of an upload.
 pub const LAST_PART: u16 = 9_999;
 
-/// The body of a put, and the object of an upload, in bytes.
+/// The body of a put, in bytes.
 pub const LARGEST_BODY: u64 = 1_073_741_824;
+
+/// The object that the parts of an upload are joined to, in bytes.
+pub const LARGEST_JOINED: u64 = 1_073_741_824;
 
 /// The bytes of a body in one piece.
 pub const LARGEST_PIECE: usize = 65_536;
@@ -77,6 +80,7 @@ pub fn constants_are()
     ensures largest_output { LARGEST_OUTPUT ≡ 16777216 }
     ensures last_part { LAST_PART ≡ 9999 }
     ensures largest_body { LARGEST_BODY ≡ 1073741824 }
+    ensures largest_joined { LARGEST_JOINED ≡ 1073741824 }
     ensures largest_piece { LARGEST_PIECE ≡ 65536 }
     ensures token_marks { TOKEN_MARKS ≡ 33 ∷ 35 ∷ 36 ∷ 37 ∷ 38 ∷ 39 ∷ 42 ∷ 43 ∷ 45 ∷ 46 ∷ 94 ∷ 95 ∷ 96 ∷ 124 ∷ 126 ∷ [] }
 {}

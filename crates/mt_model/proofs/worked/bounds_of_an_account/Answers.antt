@@ -3,7 +3,7 @@ use Rattle.std.specs.Prelude.{nat_lt}
 use Rattle.std.specs.Fmt.{digits}
 use Rattle.uuid.specs.Text.{by_index}
 use Rattle.mt_ident.specs.Identifiers.{identifier_text}
-use Rattle.mt_types.specs.declared.limits.TheConstants.{LARGEST_BODY}
+use Rattle.mt_types.specs.declared.limits.TheConstants.{LARGEST_JOINED}
 use Rattle.mt_types.specs.declared.refusal.Refusal.{Refusal}
 use Rattle.mt_types.specs.declared.refusal.Refusal.TheVariants.{AssetsTooLarge, TooManyInputs, UploadTooLarge}
 use Rattle.mt_model.specs.CommandStep.{allowed, change, replay, step}
@@ -25,7 +25,7 @@ twice n = refuse_if (nat_lt most_asset_bytes (0 + n + n) || false) AssetsTooLarg
 
 -- by the bytes of a part beside another of three
 abbrev parts : ℕ → Option Refusal
-parts n = first_refusal (refuse_if (nat_lt LARGEST_BODY (0 + n + 3)) UploadTooLarge) None
+parts n = first_refusal (refuse_if (nat_lt LARGEST_JOINED (0 + n + 3)) UploadTooLarge) None
 
 pub returns : goal.returns
 unfolding allowed change replay step identifier_text by_index digits
