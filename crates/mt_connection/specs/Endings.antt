@@ -200,8 +200,8 @@ ByFault ended.SinkFault read write disk = write
 ByFault ended.Disk read write disk = disk
 ByFault _ read write disk = Unit {0}
 
--- One connection: exchanges, and then its end, which is the one to which its bytes lead. From its answer on each image has what each
--- reply tells of.
+-- One connection: exchanges, and then its end, which is the one to which its bytes lead. From a moment within its exchange on each image
+-- has what a reply tells of.
 pub record Served (s : Setting) (since : ℕ → Files → Type 0) (most : ℕ) (old : Sides) (end : ConnectionEnd) (new : Sides) : Type 0 where
   pub exchanges : List Exchange
   pub middle : Sides

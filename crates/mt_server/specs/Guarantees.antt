@@ -141,8 +141,8 @@ Session s since old end new = (worked : Sides) × Worked s since old end worked 
 abbrev pub account_scene : Scene Sides → Scene AccountSide
 account_scene x = record { side = account_of x.side; images = x.images; since = x.since; size = x.size }
 
--- one session over a base and a history that the disk stood for: what was said, each reply durable from its exchange on, the turns of tasks
--- behind each message and at the end, and what it leaves
+-- one session over a base and a history that the disk stood for: what was said, each reply durable from a moment of its exchange on, the
+-- turns of tasks behind each message and at the end, and what it leaves
 pub record HasRun (s : Setting) (old : Scene Sides) (end : Status) (new : Scene Sides) : Type 0 where
   pub transcript : Session s new.since old.side end new.side
   pub holds : Holds s (account_scene old) end (account_scene new)

@@ -68,8 +68,8 @@ pub fn mantad<S: Source, K: Sink, D: Disk, P: Spawner, C: Clock, W: Door>(
     requires idle { (P.seen spawner.old).live ≡ [] }
     requires free { P.held spawner.old ≡ None }
 
-    // A session over each base and history that the disk stands for at entry: what was said, each reply durable from its exchange on;
-    // durable at exit, and what a crash leaves at any moment.
+    // A session over each base and history that the disk stands for at entry: what was said, each reply durable from a moment of its
+    // exchange on; durable at exit, and what a crash leaves at any moment.
     ensures run { (settings : Settings) → WantsSession (map string_bytes words.now) settings → (base : State Bytes) (h : History) → ForSome (D.seen disk.old) (HasHistory base h)
         → (end : Status) × (result ≡ code_of end) × (k : History) × (used : ℕ) ×
         HasRun (setting (is_some (S.left source.old)) (is_some (D.seen disk.old)) (C.gives (C.rule clock.old)) (P.gives (P.rule spawner.old)) settings.login settings.slots settings.log_limit base)
