@@ -1,5 +1,5 @@
 //! Rows of `mt_sched`. Jobs are numbered from 0, in the order in which they are added.
-ghost use Rattle.mt_sched.specs.Kept.{IsAbove};
+ghost use Rattle.mt_sched.specs.Plans.{IsAbove};
 
 use mt_base::{Sequence, Text};
 use mt_rows::{Row, Stop};

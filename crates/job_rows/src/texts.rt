@@ -1,11 +1,11 @@
 //! Rows of `mt_jobtext`: a job that is made step by step, and its texts. The login is `l`.
 ghost use Rattle.std.specs.Prelude.{◌<◌, ◌≤◌, IfSome, IsTrue, length};
-ghost use Rattle.mt_feeds.specs.Kept.{AreFeeds};
+ghost use Rattle.mt_feeds.specs.FedJob.{AreFeeds};
 ghost use Rattle.mt_jobtext.specs.Pieces.{IsShowable};
 
 use mt_base::{Bytes, LAST_MOMENT, NUMBERS_END, Sequence, Text};
 use mt_edge::{ReadStep, Source};
-use mt_feeds::Kept;
+use mt_feeds::FedJob;
 use mt_jobdoc::read;
 use mt_jobtext::{Lines, LiveText, closed_len, closed_text, line_count, live_text, text_len};
 use mt_path::Path;
@@ -143,7 +143,7 @@ fn is_moment(done: Option<u64>) -> bool
 }
 
 // How many lines and bytes a text has, and the text.
-fn put_text(alloc: Global, kept: &Kept<Body>, row: &Row, out: &mut String) -> Result<bool, Stop>
+fn put_text(alloc: Global, kept: &FedJob<Body>, row: &Row, out: &mut String) -> Result<bool, Stop>
     requires { AreFeeds kept.now.job kept.now.feeds.items }
 {
     if !is_showable(&kept.job) {
@@ -165,7 +165,7 @@ fn put_behind(bytes: &[u8], out: &mut String) -> Result<bool, Stop> {
 }
 
 // How many bytes a text has as a job will leave it, and the text.
-fn put_closed(alloc: Global, kept: &Kept<Body>, row: &Row, out: &mut String) -> Result<bool, Stop>
+fn put_closed(alloc: Global, kept: &FedJob<Body>, row: &Row, out: &mut String) -> Result<bool, Stop>
     requires { AreFeeds kept.now.job kept.now.feeds.items }
 {
     let moment = row.number(3)?;
@@ -183,7 +183,7 @@ fn put_closed(alloc: Global, kept: &Kept<Body>, row: &Row, out: &mut String) -> 
 }
 
 // A text that is read in pieces of so many bytes.
-fn put_pieces(alloc: Global, kept: &Kept<Body>, row: &Row, out: &mut String) -> Result<bool, Stop>
+fn put_pieces(alloc: Global, kept: &FedJob<Body>, row: &Row, out: &mut String) -> Result<bool, Stop>
     requires { AreFeeds kept.now.job kept.now.feeds.items }
 {
     if !is_showable(&kept.job) {
@@ -194,7 +194,12 @@ fn put_pieces(alloc: Global, kept: &Kept<Body>, row: &Row, out: &mut String) -> 
 }
 
 // The same of a text as a job will leave it.
-fn put_archive(alloc: Global, kept: &Kept<Body>, row: &Row, out: &mut String) -> Result<bool, Stop>
+fn put_archive(
+    alloc: Global,
+    kept: &FedJob<Body>,
+    row: &Row,
+    out: &mut String,
+) -> Result<bool, Stop>
     requires { AreFeeds kept.now.job kept.now.feeds.items }
 {
     let moment = row.number(3)?;
@@ -283,7 +288,7 @@ fn changes(alloc: Global, job: &mut Job<Body>, row: &Row) -> Result<bool, Stop> 
 }
 
 // The answer to a row on the texts of a job, if it is one.
-fn on_kept(alloc: Global, kept: &Kept<Body>, row: &Row, out: &mut String) -> Result<bool, Stop>
+fn on_kept(alloc: Global, kept: &FedJob<Body>, row: &Row, out: &mut String) -> Result<bool, Stop>
     requires { AreFeeds kept.now.job kept.now.feeds.items }
 {
     match row.text(0)? {
@@ -318,9 +323,9 @@ impl Texts {
             return Ok(false);
         };
         let changed = changes(alloc, &mut job, row)?;
-        let kept = Kept::with_feeds(alloc, job)?;
+        let kept = FedJob::with_feeds(alloc, job)?;
         let answered = changed || on_kept(alloc, &kept, row, out)?;
-        let Kept { job, .. } = kept;
+        let FedJob { job, .. } = kept;
         self.job = Some(job);
         Ok(answered)
     }

@@ -3,11 +3,11 @@
 #![tactic(auto)]
 
 ghost use Rattle.std.specs.Prelude.{◌≡◌, ◌<◌, ◌^◌, length, IfOk, None};
-ghost use Rattle.mt_feeds.specs.Kept.{AreFeeds};
+ghost use Rattle.mt_feeds.specs.FedJob.{AreFeeds};
 
 use mt_base::{Bytes, Sequence, Text};
 use mt_edge::{ReadStep, Source};
-use mt_feeds::Kept;
+use mt_feeds::FedJob;
 use mt_ident::uuid_text;
 use mt_jobtext::{Lines, LiveText, closed_len, line_count, text_len};
 use mt_path::{Area, Path};
@@ -206,7 +206,12 @@ fn put(rt: &HostRuntime, lines: &mut Lines<Body>, piece: &mut [u8]) -> Result<()
 }
 
 // Prints a text of a job as it stands.
-fn put_live(rt: &HostRuntime, kept: &Kept<Body>, text: LiveText, piece: &mut [u8]) -> Result<(), u8>
+fn put_live(
+    rt: &HostRuntime,
+    kept: &FedJob<Body>,
+    text: LiveText,
+    piece: &mut [u8],
+) -> Result<(), u8>
     requires number { kept.now.job.number < 2 ^ 62 }
     requires created { kept.now.job.created ≡ 0 }
     requires done { kept.now.job.done ≡ None }
@@ -220,7 +225,7 @@ fn put_live(rt: &HostRuntime, kept: &Kept<Body>, text: LiveText, piece: &mut [u8
 }
 
 // Prints how many lines and bytes there are of names, and of causes.
-fn put_counts(rt: &HostRuntime, kept: &Kept<Body>) -> Result<(), u8>
+fn put_counts(rt: &HostRuntime, kept: &FedJob<Body>) -> Result<(), u8>
     requires number { kept.now.job.number < 2 ^ 62 }
     requires created { kept.now.job.created ≡ 0 }
     requires done { kept.now.job.done ≡ None }
@@ -242,7 +247,7 @@ fn put_counts(rt: &HostRuntime, kept: &Kept<Body>) -> Result<(), u8>
 // Prints how long a text is that a job leaves, and then the text.
 fn put_closed(
     rt: &HostRuntime,
-    kept: &Kept<Body>,
+    kept: &FedJob<Body>,
     text: LiveText,
     piece: &mut [u8],
 ) -> Result<(), u8>
@@ -266,7 +271,7 @@ fn put_closed(
 }
 
 // Prints what is asked for once.
-fn print(rt: &HostRuntime, kept: &Kept<Body>, shown: Shown, piece: &mut [u8]) -> Result<(), u8>
+fn print(rt: &HostRuntime, kept: &FedJob<Body>, shown: Shown, piece: &mut [u8]) -> Result<(), u8>
     requires number { kept.now.job.number < 2 ^ 62 }
     requires created { kept.now.job.created ≡ 0 }
     requires done { kept.now.job.done ≡ None }
@@ -286,7 +291,7 @@ fn print(rt: &HostRuntime, kept: &Kept<Body>, shown: Shown, piece: &mut [u8]) ->
 }
 
 // The job, with what is kept beside it.
-fn made(alloc: Global, work: Work) -> Result<Kept<Body>, AllocError>
+fn made(alloc: Global, work: Work) -> Result<FedJob<Body>, AllocError>
     ensures number { IfOk result (λ k. k.job.number < 2 ^ 62) }
     ensures created { IfOk result (λ k. k.job.created ≡ 0) }
     ensures done { IfOk result (λ k. k.job.done ≡ None) }
@@ -306,7 +311,7 @@ fn made(alloc: Global, work: Work) -> Result<Kept<Body>, AllocError>
         done: None,
         trace,
     };
-    Kept::with_feeds(alloc, job)
+    FedJob::with_feeds(alloc, job)
 }
 
 // Prints it so often.

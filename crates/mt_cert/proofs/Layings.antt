@@ -2,7 +2,7 @@
 use Rattle.std.proofs.Common.{◌≡◌, ℕ, ◌+◌, ◌<◌, List, [], ◌∷◌, ◌++◌, length, take, get_or, sym, ap, subst, ◌∙◌, arith, append_assoc, append-nil, length-append}
 use Rattle.std.proofs.lemmas.List.{take_more}
 use Rattle.mt_model.specs.Types.{Body, Item}
-use Rattle.mt_feeds.specs.Kept.{lists_of}
+use Rattle.mt_feeds.specs.FedJob.{lists_of}
 use Rattle.mt_feeds.specs.Opening.{with_place_read}
 use Rattle.mt_feeds.proofs.Laid.{shares_push}
 use Rattle.mt_cert.specs.Laying.{AreShared}

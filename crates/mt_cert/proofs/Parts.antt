@@ -23,7 +23,7 @@ use Rattle.mt_certline.specs.declared.line.Line.{Line}
 use Rattle.mt_certline.specs.declared.line.Line.TheVariants.{Input, Output, Task}
 use Rattle.mt_certline.specs.declared.line.Listed.{Listed}
 use Rattle.mt_certline.specs.declared.line.Sum.{Sum}
-use Rattle.mt_feeds.specs.Kept.{all_shares, lists_of, share_numbers}
+use Rattle.mt_feeds.specs.FedJob.{all_shares, lists_of, share_numbers}
 use Rattle.mt_feeds.proofs.Laid.{share_at}
 use Rattle.mt_cert.specs.Certifying.{sum_of_body}
 use Rattle.mt_cert.specs.Reading.{AreLaid, IsOpened, certificate_in, given_lines, input_lines, listed_by, output_lines, reads_by, task_lines}

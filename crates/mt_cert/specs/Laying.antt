@@ -1,7 +1,7 @@
 -- How shares are laid out.
 use Rattle.std.specs.Prelude.{◌≡◌, ℕ, List, length}
 use Rattle.mt_model.specs.Types.{Body, Item}
-use Rattle.mt_feeds.specs.Kept.{all_shares, lists_of}
+use Rattle.mt_feeds.specs.FedJob.{all_shares, lists_of}
 use Rattle.mt_cert.specs.declared.shares.Shares.{Shares}
 
 -- the shares of so many reducers are those of these items

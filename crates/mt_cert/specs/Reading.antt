@@ -9,7 +9,7 @@ use Rattle.mt_certline.specs.Certificate.{Certificate, certificate_of, good_item
 use Rattle.mt_certline.specs.declared.line.Line.{Line}
 use Rattle.mt_certline.specs.declared.line.Line.TheVariants.{Input, Output, Task}
 use Rattle.mt_certline.specs.declared.line.Listed.{Listed}
-use Rattle.mt_feeds.specs.Kept.{all_shares, lists_of}
+use Rattle.mt_feeds.specs.FedJob.{all_shares, lists_of}
 use Rattle.mt_cert.specs.Certifying.{sum_of_body}
 use Rattle.mt_cert.specs.declared.shares.Opened.{Opened}
 

@@ -4,7 +4,7 @@ ghost use Rattle.mt_types.specs.WellMade.{HasReducers};
 ghost use Rattle.mt_model.specs.Types.{Body, Item};
 ghost use Rattle.mt_model.specs.Feed.{entries_of, feed, items_in, items_of};
 ghost use Rattle.mt_model.specs.Tasks.{reducer_of};
-ghost use Rattle.mt_feeds.specs.Kept.{all_shares, lists_of};
+ghost use Rattle.mt_feeds.specs.FedJob.{all_shares, lists_of};
 ghost use Rattle.mt_feeds.specs.Opening.{with_place_read};
 ghost use Rattle.mt_cert.specs.Laying.{AreShared};
 ghost use Rattle.mt_cert.specs.Reading.{IsOpened};

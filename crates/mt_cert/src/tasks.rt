@@ -4,7 +4,7 @@ ghost use Rattle.mt_types.specs.Values.{job_with};
 ghost use Rattle.mt_types.specs.WellMade.{HasReducers, IsDocument};
 ghost use Rattle.mt_certline.specs.Certificate.{listed_in};
 ghost use Rattle.mt_certline.specs.declared.line.Line.TheVariants.{Task};
-ghost use Rattle.mt_feeds.specs.Kept.{lists_of};
+ghost use Rattle.mt_feeds.specs.FedJob.{lists_of};
 ghost use Rattle.mt_cert.specs.Certifying.{sum_of_body};
 ghost use Rattle.mt_cert.specs.Putting.{PutsTo, out_at};
 ghost use Rattle.mt_cert.specs.Reading.{certificate_in, listed_by, reads_by, task_lines};

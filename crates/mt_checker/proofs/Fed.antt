@@ -11,7 +11,7 @@ use Rattle.mt_types.specs.declared.document.PhaseKind.{PhaseKind}
 use Rattle.mt_types.specs.declared.document.PhaseKind.TheVariants.{Map, Reduce}
 use Rattle.mt_model.specs.Types.{AccountPath, Item}
 use Rattle.mt_model.specs.Tasks.{reducer_of, task_count}
-use Rattle.mt_feeds.specs.Kept.{all_shares, share_numbers}
+use Rattle.mt_feeds.specs.FedJob.{all_shares, share_numbers}
 use Rattle.mt_feeds.specs.Opening.{with_place_read}
 use Rattle.mt_feeds.proofs.Laid.{share_at, shares_push}
 use Rattle.mt_certline.specs.Certificate.{reads_of}

@@ -5,7 +5,7 @@ use Rattle.std.specs.Option.{option_map_or}
 use Rattle.mt_types.specs.declared.document.PhaseKind.{PhaseKind}
 use Rattle.mt_types.specs.declared.document.PhaseKind.TheVariants.{Map, Reduce}
 use Rattle.mt_model.specs.Types.{AccountPath, Item}
-use Rattle.mt_feeds.specs.Kept.{all_shares}
+use Rattle.mt_feeds.specs.FedJob.{all_shares}
 use Rattle.mt_feeds.specs.Opening.{with_place_read}
 use Rattle.mt_certline.specs.declared.line.Sum.{Sum}
 

@@ -1,7 +1,7 @@
 //! What a phase reads, as far as a checker keeps it.
 ghost use Rattle.std.specs.Prelude.{◌≡◌, [], IfOk, OnOk, replicate};
 ghost use Rattle.mt_model.specs.Tasks.{reducer_of};
-ghost use Rattle.mt_feeds.specs.Kept.{all_shares, lists_of};
+ghost use Rattle.mt_feeds.specs.FedJob.{all_shares, lists_of};
 ghost use Rattle.mt_certline.specs.declared.line.Sum.{Sum};
 ghost use Rattle.mt_checker.specs.Feeds.{shares_in, shares_with};
 
@@ -22,7 +22,7 @@ pub(crate) struct Gathered {
 }
 
 impl Model for Gathered {
-    ghost use Rattle.mt_feeds.specs.Kept.{lists_of};
+    ghost use Rattle.mt_feeds.specs.FedJob.{lists_of};
     ghost use Rattle.mt_checker.specs.Feeds.{Feed};
 
     ghost Value = { Feed };

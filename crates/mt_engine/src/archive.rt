@@ -2,7 +2,7 @@
 ghost use Rattle.std.specs.Prelude.{◌≡◌, ◌≤◌, ◌+◌, IfOk, length};
 ghost use Rattle.mt_body.specs.Growth.{archive_pieces};
 ghost use Rattle.mt_body.specs.Stored.{pieces_size};
-ghost use Rattle.mt_feeds.specs.Kept.{AreFeeds};
+ghost use Rattle.mt_feeds.specs.FedJob.{AreFeeds};
 ghost use Rattle.mt_jobtext.specs.JobTexts.{archive_of, text_of};
 ghost use Rattle.mt_jobtext.specs.Pieces.{IsShowable};
 ghost use Rattle.mt_model.specs.JobSteps.{done_at};
@@ -10,7 +10,7 @@ ghost use Rattle.mt_engine.specs.Archiving.{texts_size};
 
 use crate::engine::Engine;
 use mt_base::LAST_MOMENT;
-use mt_feeds::Kept;
+use mt_feeds::FedJob;
 use mt_jobtext::{LiveText, closed_len, lawful_is_showable};
 use mt_types::Body;
 use std::alloc::{AllocError, Global};
@@ -37,7 +37,7 @@ fn pieces_len(len: u64) -> Result<u64, AllocError>
 fn text_pieces(
     alloc: Global,
     login: &str,
-    kept: &Kept<Body>,
+    kept: &FedJob<Body>,
     text: LiveText,
     cancelled: bool,
     moment: u64,
@@ -55,7 +55,7 @@ fn text_pieces(
 fn archive_pieces(
     alloc: Global,
     login: &str,
-    kept: &Kept<Body>,
+    kept: &FedJob<Body>,
     cancelled: bool,
     moment: u64,
 ) -> Result<u64, AllocError>

@@ -8,7 +8,7 @@ use Rattle.std.proofs.lemmas.List.{length-replicate}
 use Rattle.mt_types.specs.declared.job.Job.{Job}
 use Rattle.mt_model.proofs.Maps.{length-map, slice_get-map}
 use Rattle.mt_feeds.specs.declared.kept.At.{At}
-use Rattle.mt_feeds.specs.Kept.{AreFeeds, IsKept, index_of, lists_of}
+use Rattle.mt_feeds.specs.FedJob.{AreFeeds, IsKept, index_of, lists_of}
 use Rattle.mt_feeds.proofs.Opened.{none_before}
 
 same_from_replicate : {X : Type 0} (n i : ℕ) (x y : X) → slice_get (replicate n x) i ≡ Some y → y ≡ x

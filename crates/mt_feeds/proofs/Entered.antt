@@ -18,7 +18,7 @@ use Rattle.mt_model.proofs.LawfulInputs.{and_left, and_right}
 use Rattle.mt_model.proofs.Maps.{same_function}
 use Rattle.mt_model.proofs.Traces.{all_range, some_same}
 use Rattle.mt_sched.proofs.Filters.{differ, or_false}
-use Rattle.mt_feeds.specs.Kept.{AreShares, all_shares, shares_in}
+use Rattle.mt_feeds.specs.FedJob.{AreShares, all_shares, shares_in}
 use Rattle.mt_feeds.specs.Opening.{WereShares}
 
 all_taken : {X : Type 0} (test : X → Bool) (m i : ℕ) (xs : List X) (x : X) → list_all test (take m xs) ≡ true → i < m → slice_get xs i ≡ Some x → test x ≡ true

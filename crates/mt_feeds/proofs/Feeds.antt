@@ -16,7 +16,7 @@ use Rattle.mt_model.specs.JobSteps.{with_entry}
 use Rattle.mt_model.proofs.Maps.{map-append, map-map}
 use Rattle.mt_sched.proofs.Filters.{range_split}
 use Rattle.mt_feeds.specs.declared.kept.At.{At}
-use Rattle.mt_feeds.specs.Kept.{AreFeeds, index_of, item_at, outputs_at, places_at}
+use Rattle.mt_feeds.specs.FedJob.{AreFeeds, index_of, item_at, outputs_at, places_at}
 use Rattle.mt_feeds.proofs.Lookups.{reads_all, reads_through, slice_get_behind, slice_set_else, slice_set_here}
 
 pub enumerate_push : {X : Type 0} (n : ℕ) (xs : List X) (x : X) → enumerate_from n (xs ++ x ∷ []) ≡ enumerate_from n xs ++ (n + length xs, x) ∷ []

@@ -13,7 +13,7 @@ use Rattle.std.proofs.lemmas.Nat.{mod_below}
 use Rattle.mt_types.specs.declared.job.Item.{Item}
 use Rattle.mt_model.specs.Tasks.{reducer_of, share}
 use Rattle.mt_model.proofs.Maps.{length-map, map-append}
-use Rattle.mt_feeds.specs.Kept.{all_shares, share_numbers}
+use Rattle.mt_feeds.specs.FedJob.{all_shares, share_numbers}
 use Rattle.mt_feeds.specs.Opening.{with_place_read}
 use Rattle.mt_feeds.proofs.Feeds.{enumerate_push}
 use Rattle.mt_feeds.proofs.Lookups.{reads_through, slice_get_behind}

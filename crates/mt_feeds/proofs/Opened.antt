@@ -20,7 +20,7 @@ use Rattle.mt_model.proofs.Shares.{beyond}
 use Rattle.mt_sched.specs.Plan.{Plan, is_task_in}
 use Rattle.mt_sched.specs.PlanOfJob.{plan_of}
 use Rattle.mt_sched.proofs.Plain.{task_plain}
-use Rattle.mt_feeds.specs.Kept.{AreShares, all_shares, shares_in, shares_of}
+use Rattle.mt_feeds.specs.FedJob.{AreShares, all_shares, shares_in, shares_of}
 use Rattle.mt_feeds.specs.Opening.{WereShares, opened_at, opened_by, wanted_in, wanted_of}
 use Rattle.mt_feeds.proofs.Lookups.{slice_set_else, slice_set_here}
 

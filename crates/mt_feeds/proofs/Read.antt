@@ -15,7 +15,7 @@ use Rattle.mt_model.specs.Tasks.{is_ready, is_running, is_task, is_task_of, item
 use Rattle.mt_model.proofs.LawfulInputs.{and_both, and_left, and_right}
 use Rattle.mt_model.proofs.Maps.{length-map, slice_get-map}
 use Rattle.mt_model.proofs.Shares.{map_reads}
-use Rattle.mt_feeds.specs.Kept.{AreShares, all_shares, lists_of, share_numbers, shares_in}
+use Rattle.mt_feeds.specs.FedJob.{AreShares, all_shares, lists_of, share_numbers, shares_in}
 use Rattle.mt_feeds.specs.Reading.{item_of, read_of, task_items}
 use Rattle.mt_feeds.proofs.Laid.{share_at, share_reads}
 

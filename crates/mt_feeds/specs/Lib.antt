@@ -1,3 +1,3 @@
-pub mod Kept
+pub mod FedJob
 pub mod Opening
 pub mod Reading

@@ -9,7 +9,7 @@ use Rattle.mt_types.specs.declared.job.Job.{Job}
 use Rattle.mt_model.specs.Feed.{feed}
 use Rattle.mt_model.specs.Tasks.{reducer_of}
 use Rattle.mt_sched.specs.Plan.{Plan, is_task_in}
-use Rattle.mt_feeds.specs.Kept.{all_shares, shares_of}
+use Rattle.mt_feeds.specs.FedJob.{all_shares, shares_of}
 
 -- no list
 abbrev pub is_none_laid : List (List ℕ) → Bool

@@ -1,7 +1,7 @@
 //! A job with what is kept beside it: where the outputs of its tasks stand, and the shares of its reducers.
 ghost use Rattle.std.specs.Prelude.{◌≡◌, ◌++◌, [], IfOk, OnOk, length, map, option_copied, replicate};
 ghost use Rattle.mt_model.specs.Feed.{items_of};
-ghost use Rattle.mt_feeds.specs.Kept.{item_at, lists_of, places_at};
+ghost use Rattle.mt_feeds.specs.FedJob.{item_at, lists_of, places_at};
 
 use mt_types::{Item, Job, Outcome, TraceEntry};
 use std::alloc::{AllocError, Global};
@@ -15,7 +15,7 @@ pub struct At {
 
 /// A job, with what is kept beside it.
 #[derive(Drop)]
-pub struct Kept<B> {
+pub struct FedJob<B> {
     pub job: Job<B>,
     /// For each phase, where the outputs of its tasks stand.
     pub feeds: Vec<Vec<At>>,
@@ -80,11 +80,11 @@ fn clear_shares(shares: &mut Vec<Vec<Vec<usize>>>)
     }
 }
 
-impl<B> Kept<B> {
+impl<B> FedJob<B> {
     ghost use Rattle.std.specs.Prelude.{◌≡◌, ◌<◌, false, length, map, option_copied};
     ghost use Rattle.mt_model.specs.Feed.{feed};
     ghost use Rattle.mt_model.specs.JobSteps.{done_at, with_end};
-    ghost use Rattle.mt_feeds.specs.Kept.{AreFeeds, IsKept, lists_of};
+    ghost use Rattle.mt_feeds.specs.FedJob.{AreFeeds, IsKept, lists_of};
     ghost use Rattle.mt_feeds.specs.Opening.{WereShares};
     ghost use Rattle.mt_feeds.specs.Reading.{item_of};
 
@@ -117,7 +117,7 @@ impl<B> Kept<B> {
         }
     }
 
-    /// The input of the job ends. The shares of what may then begin are not laid out yet: [`Kept::open`] lays them out.
+    /// The input of the job ends. The shares of what may then begin are not laid out yet: [`FedJob::open`] lays them out.
     pub fn end(&mut self)
         requires kept { IsKept self.old }
         requires open { self.old.job.ended ≡ false }
@@ -140,15 +140,15 @@ impl<B> Kept<B> {
     }
 }
 
-impl<B: Drop> Kept<B> {
+impl<B: Drop> FedJob<B> {
     ghost use Rattle.std.specs.Prelude.{◌≡◌, [], true, false, IfOk, OnOk, map};
     ghost use Rattle.mt_model.specs.JobSteps.{with_entry};
     ghost use Rattle.mt_model.specs.Tasks.{is_ready};
-    ghost use Rattle.mt_feeds.specs.Kept.{AreFeeds, IsKept, lists_of};
+    ghost use Rattle.mt_feeds.specs.FedJob.{AreFeeds, IsKept, lists_of};
     ghost use Rattle.mt_feeds.specs.Opening.{WereShares};
 
     /// A job of which no task is committed, and whose input has not ended.
-    pub fn of(alloc: Global, job: Job<B>) -> Result<Kept<B>, AllocError>
+    pub fn of(alloc: Global, job: Job<B>) -> Result<FedJob<B>, AllocError>
         requires trace { job.trace ≡ [] }
         requires input { job.ended ≡ false }
         ensures job { IfOk result (λ k. k.job ≡ job) }
@@ -157,10 +157,10 @@ impl<B: Drop> Kept<B> {
         let count = job.document.phases.len();
         let feeds = empty_lists(alloc, count)?;
         let shares = empty_lists(alloc, count)?;
-        Ok(Kept { job, feeds, shares })
+        Ok(FedJob { job, feeds, shares })
     }
 
-    /// A ready task is committed with this entry. The shares of what may then begin are not laid out yet: [`Kept::open`] lays them
+    /// A ready task is committed with this entry. The shares of what may then begin are not laid out yet: [`FedJob::open`] lays them
     /// out. On an error, which is want of memory, what is kept may be anything.
     pub fn enter(&mut self, entry: TraceEntry<B>) -> Result<(), AllocError>
         requires kept { IsKept self.old }

@@ -8,4 +8,4 @@ mod noting;
 mod reading;
 mod shares;
 
-pub use kept::{At, Kept, count_of};
+pub use kept::{At, FedJob, count_of};

@@ -2,9 +2,9 @@
 ghost use Rattle.std.specs.Prelude.{◌≡◌, IfOk, OnOk, length};
 ghost use Rattle.mt_types.specs.declared.job.Job.{Job};
 ghost use Rattle.mt_model.specs.JobSteps.{with_entry};
-ghost use Rattle.mt_feeds.specs.Kept.{AreFeeds};
+ghost use Rattle.mt_feeds.specs.FedJob.{AreFeeds};
 
-use crate::kept::{At, Kept, count_of, empty_lists, note};
+use crate::kept::{At, FedJob, count_of, empty_lists, note};
 use mt_types::{Job, TraceEntry};
 use std::alloc::{AllocError, Global};
 
@@ -35,17 +35,17 @@ fn feeds_of<B>(alloc: Global, job: &Job<B>) -> Result<Vec<Vec<At>>, AllocError>
     Ok(feeds)
 }
 
-impl<B: Drop> Kept<B> {
+impl<B: Drop> FedJob<B> {
     ghost use Rattle.std.specs.Prelude.{◌≡◌, IfOk};
-    ghost use Rattle.mt_feeds.specs.Kept.{AreFeeds};
+    ghost use Rattle.mt_feeds.specs.FedJob.{AreFeeds};
 
     /// A job of any trace, with where the outputs of its tasks stand, and without shares: as a text of it needs it.
-    pub fn with_feeds(alloc: Global, job: Job<B>) -> Result<Kept<B>, AllocError>
+    pub fn with_feeds(alloc: Global, job: Job<B>) -> Result<FedJob<B>, AllocError>
         ensures job { IfOk result (λ k. k.job ≡ job) }
         ensures feeds { IfOk result (λ k. AreFeeds k.job k.feeds.items) }
     {
         let feeds = feeds_of(alloc, &job)?;
-        Ok(Kept {
+        Ok(FedJob {
             job,
             feeds,
             shares: Vec::new(alloc),

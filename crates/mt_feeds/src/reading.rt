@@ -2,7 +2,7 @@
 ghost use Rattle.std.specs.Prelude.{◌≡◌, length, slice_get};
 ghost use Rattle.std.specs.Option.{option_and_then, option_map_or};
 
-use crate::kept::Kept;
+use crate::kept::FedJob;
 use mt_types::{Item, PhaseKind};
 
 // The place of one of the items that a reducer reads, counted from 0.
@@ -25,10 +25,10 @@ fn count_in(shares: &[Vec<usize>], reducer: u64) -> usize
     }
 }
 
-impl<B> Kept<B> {
+impl<B> FedJob<B> {
     ghost use Rattle.std.specs.Prelude.{◌≡◌, true, length, option_copied};
     ghost use Rattle.mt_model.specs.Tasks.{is_ready};
-    ghost use Rattle.mt_feeds.specs.Kept.{IsKept};
+    ghost use Rattle.mt_feeds.specs.FedJob.{IsKept};
     ghost use Rattle.mt_feeds.specs.Reading.{read_of, task_items};
 
     /// One of the items that a ready task reads, counted from 0, by look-ups; none from their number on.

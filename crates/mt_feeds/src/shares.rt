@@ -3,10 +3,10 @@ ghost use Rattle.std.specs.Prelude.{◌≡◌, ◌<◌, length, map, IfOk, OnOk}
 ghost use Rattle.mt_model.specs.Feed.{feed};
 ghost use Rattle.mt_model.specs.Tasks.{reducer_of};
 ghost use Rattle.mt_types.specs.WellMade.{IsDocument};
-ghost use Rattle.mt_feeds.specs.Kept.{AreFeeds, all_shares, lists_of};
+ghost use Rattle.mt_feeds.specs.FedJob.{AreFeeds, all_shares, lists_of};
 ghost use Rattle.mt_feeds.specs.Opening.{opened_at, wanted_of, with_place_read};
 
-use crate::kept::{Kept, empty_lists};
+use crate::kept::{FedJob, empty_lists};
 use mt_sched::Queue;
 use mt_types::{Item, PhaseKind};
 use std::alloc::{AllocError, Global};
@@ -40,7 +40,7 @@ fn add_place<B>(
 // The places that each of so many reducers reads of what a phase reads.
 fn lay<B>(
     alloc: Global,
-    kept: &Kept<B>,
+    kept: &FedJob<B>,
     phase: u32,
     count: u32,
 ) -> Result<Vec<Vec<usize>>, AllocError>
@@ -60,7 +60,7 @@ fn lay<B>(
 }
 
 // The number of reducers of a phase whose shares are to be laid out: it has begun, and they are not.
-fn wanted<B>(kept: &Kept<B>, phase: u32, queue: &Queue) -> Option<u32>
+fn wanted<B>(kept: &FedJob<B>, phase: u32, queue: &Queue) -> Option<u32>
     requires phase { phase < length kept.now.job.document.phases }
     requires shares { length kept.now.shares.items ≡ length kept.now.job.document.phases }
     ensures { result ≡ wanted_of queue.now kept.now.job.document.phases (map lists_of kept.now.shares.items) phase }
@@ -81,7 +81,7 @@ fn wanted<B>(kept: &Kept<B>, phase: u32, queue: &Queue) -> Option<u32>
 // Lays the shares of a phase out, where it has begun and they are not.
 fn open_phase<B>(
     alloc: Global,
-    kept: &mut Kept<B>,
+    kept: &mut FedJob<B>,
     phase: u32,
     queue: &Queue,
 ) -> Result<(), AllocError>
@@ -100,12 +100,12 @@ fn open_phase<B>(
     Ok(())
 }
 
-impl<B> Kept<B> {
+impl<B> FedJob<B> {
     ghost use Rattle.std.specs.Prelude.{◌≡◌, true, OnOk, map};
     ghost use Rattle.mt_types.specs.WellMade.{IsDocument};
     ghost use Rattle.mt_model.specs.Tasks.{is_running};
     ghost use Rattle.mt_sched.specs.PlanOfJob.{plan_of};
-    ghost use Rattle.mt_feeds.specs.Kept.{AreFeeds, IsKept, lists_of};
+    ghost use Rattle.mt_feeds.specs.FedJob.{AreFeeds, IsKept, lists_of};
     ghost use Rattle.mt_feeds.specs.Opening.{WereShares};
 
     /// Lays out the shares of each phase that has begun, by the queue of the job, where they are not. On an error, which is want of

@@ -24,16 +24,16 @@ use Rattle.mt_model.proofs.Children.{parent-above}
 use Rattle.mt_model.proofs.LawfulNewJob.{all_numbers, name_injective, other_path, sorted_push}
 use Rattle.mt_model.proofs.Maps.{map-append}
 use Rattle.mt_model.proofs.RowLaws.{at-with_row, is_path-self}
-use Rattle.mt_sched.specs.Kept.{IsAbove}
+use Rattle.mt_sched.specs.Plans.{IsAbove}
 use Rattle.mt_sched.specs.Plan.{Plan}
 use Rattle.mt_sched.specs.PlanOfJob.{kinds_of, plan_of, plans_of}
 use Rattle.mt_sched.specs.PlanSteps.{first_plan}
 use Rattle.mt_sched.proofs.Changes.{plan_of_new}
 use Rattle.mt_sched.proofs.Jobs.{plans_of_new}
 use Rattle.mt_sched.proofs.Orders.{insert_last}
-use Rattle.mt_feeds.specs.declared.kept.Kept.{Kept}
-use Rattle.mt_feeds.specs.Kept.{IsKept}
-use Rattle.mt_jobs.specs.Kept.{IsJobs, done_of, jobs_in, numbers_of, running_of}
+use Rattle.mt_feeds.specs.declared.kept.FedJob.{FedJob}
+use Rattle.mt_feeds.specs.FedJob.{IsKept}
+use Rattle.mt_jobs.specs.JobList.{IsJobs, done_of, jobs_in, numbers_of, running_of}
 
 none_from : {X : Type 0} (o : Option X) → ((x : X) → o ≡ Some x → ⊥) → o ≡ None
 none_from None never = refl
@@ -81,20 +81,20 @@ module _ {B : Type 0} where
   filter_push : (t : Job B → Bool) (jobs : List (Job B)) (j : Job B) (b : Bool) → t j ≡ b → filter t (jobs ++ j ∷ []) ≡ filter t jobs ++ cond b (j ∷ []) []
   filter_push t jobs j b is = filter-append t jobs (j ∷ []) ∙ ap (λ c. filter t jobs ++ cond c (j ∷ []) []) is
 
-  all_kept : (n : ℕ) (kept : List (Kept B)) → All (λ j. j.number < n) (jobs_in kept) → All (λ x. x < n) (numbers_of (jobs_in kept))
+  all_kept : (n : ℕ) (kept : List (FedJob B)) → All (λ j. j.number < n) (jobs_in kept) → All (λ x. x < n) (numbers_of (jobs_in kept))
   all_kept n kept below = all_numbers (λ (j : Job B). j.number) n (jobs_in kept) below
 
   -- a job that was just made comes behind the others
-  pub jobs_added : (rows : Rows B) (n moment : ℕ) (document : JobDocument) (kept : List (Kept B)) (plans : List (ℕ × Plan)) (running done : List ℕ) (new : Kept B) → IsJobs kept plans running done → IsKept new → new.job ≡ new_job rows n document moment → n < 2 ^ 62
+  pub jobs_added : (rows : Rows B) (n moment : ℕ) (document : JobDocument) (kept : List (FedJob B)) (plans : List (ℕ × Plan)) (running done : List ℕ) (new : FedJob B) → IsJobs kept plans running done → IsKept new → new.job ≡ new_job rows n document moment → n < 2 ^ 62
       → All (λ j. j.number < n) (jobs_in kept) → IsJobs (kept ++ new ∷ []) (plans ++ (n, first_plan (kinds_of document.phases)) ∷ []) (insert_key nat_cmp running n) done
   jobs_added rows n moment document kept plans running done new is good made small below =
       let number : new.job.number ≡ n = ap (λ (x : Job B). x.number) made in
       let runs : is_running new.job ≡ true = ap is_running made in
-      let joined : jobs_in (kept ++ new ∷ []) ≡ jobs_in kept ++ new.job ∷ [] = map-append (λ (x : Kept B). x.job) kept (new ∷ []) in
+      let joined : jobs_in (kept ++ new ∷ []) ≡ jobs_in kept ++ new.job ∷ [] = map-append (λ (x : FedJob B). x.job) kept (new ∷ []) in
       let plan : plan_of new.job ≡ first_plan (kinds_of document.phases) = ap plan_of made ∙ plan_of_new rows n document moment in
       record {
         rising = subst (IsStrictlySortedBy nat_cmp) (sym (ap numbers_of joined ∙ numbers_push (jobs_in kept) new.job ∙ ap (λ x. numbers_of (jobs_in kept) ++ x ∷ []) number)) (sorted_push (numbers_of (jobs_in kept)) n is.rising (all_kept n kept below));
-        small = All-push (λ (x : Kept B). x.job.number < 2 ^ 62) kept new is.small (subst (λ x. x < 2 ^ 62) (sym number) small);
+        small = All-push (λ (x : FedJob B). x.job.number < 2 ^ 62) kept new is.small (subst (λ x. x < 2 ^ 62) (sym number) small);
         each = All-push IsKept kept new is.each good;
         plans_are =
             ap {B = List (ℕ × Plan)} (λ l. l ++ (n, first_plan (kinds_of document.phases)) ∷ []) is.plans_are
@@ -116,7 +116,7 @@ module _ {B : Type 0} where
 
 module _ {B : Type 0} where
   -- so it is where the parts are these
-  pub jobs_pushed : (rows : Rows B) (n moment : ℕ) (document : JobDocument) (kept left : List (Kept B)) (plans later : List (ℕ × Plan)) (running run done : List ℕ) (new : Kept B) → IsJobs kept plans running done → IsKept new → new.job ≡ new_job rows n document moment → n < 2 ^ 62
+  pub jobs_pushed : (rows : Rows B) (n moment : ℕ) (document : JobDocument) (kept left : List (FedJob B)) (plans later : List (ℕ × Plan)) (running run done : List ℕ) (new : FedJob B) → IsJobs kept plans running done → IsKept new → new.job ≡ new_job rows n document moment → n < 2 ^ 62
       → All (λ j. j.number < n) (jobs_in kept) → left ≡ kept ++ new ∷ [] → later ≡ plans ++ (new.job.number, first_plan (kinds_of new.job.document.phases)) ∷ [] → run ≡ insert_key nat_cmp running new.job.number → IsJobs left later run done
   jobs_pushed rows n moment document kept left plans later running run done new is good made small below left_is later_is run_is =
       let plans_new : later ≡ plans ++ (n, first_plan (kinds_of document.phases)) ∷ [] = later_is ∙ ap {B = List (ℕ × Plan)} (λ (j : Job B). plans ++ (j.number, first_plan (kinds_of j.document.phases)) ∷ []) made in
@@ -127,8 +127,8 @@ module _ {B : Type 0} where
       (jobs_added rows n moment document kept plans running done new is good made small below)))
 
   -- and so are the jobs
-  pub jobs_with_new : (kept : List (Kept B)) (new : Kept B) → jobs_in (kept ++ new ∷ []) ≡ jobs_in kept ++ new.job ∷ []
-  jobs_with_new kept new = map-append (λ (x : Kept B). x.job) kept (new ∷ [])
+  pub jobs_with_new : (kept : List (FedJob B)) (new : FedJob B) → jobs_in (kept ++ new ∷ []) ≡ jobs_in kept ++ new.job ∷ []
+  jobs_with_new kept new = map-append (λ (x : FedJob B). x.job) kept (new ∷ [])
 
 -- `stor` can be made in the folder that was just made
 pub stor_free : {B : Type 0} (rows : Rows B) (number moment : ℕ) → at rows (job_stor number) ≡ None → make_directory_refusal (with_row rows (job_folder number) (entry.Directory moment)) (job_stor number) ≡ None

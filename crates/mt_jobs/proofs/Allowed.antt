@@ -13,12 +13,12 @@ use Rattle.mt_model.specs.JobSteps.{add_inputs_refusal, input_refusal, job_refus
 use Rattle.mt_model.specs.Tasks.{is_running}
 use Rattle.mt_model.proofs.LawfulInputs.{or_none}
 use Rattle.mt_model.proofs.RowLaws.{neither, not_refused}
-use Rattle.mt_sched.specs.Kept.{plan_at}
+use Rattle.mt_sched.specs.Plans.{plan_at}
 use Rattle.mt_sched.specs.Plan.{Plan}
 use Rattle.mt_sched.specs.PlanOfJob.{plan_of, plans_of}
-use Rattle.mt_feeds.specs.declared.kept.Kept.{Kept}
-use Rattle.mt_feeds.specs.Kept.{IsKept}
-use Rattle.mt_jobs.specs.Kept.{IsJobs, jobs_in}
+use Rattle.mt_feeds.specs.declared.kept.FedJob.{FedJob}
+use Rattle.mt_feeds.specs.FedJob.{IsKept}
+use Rattle.mt_jobs.specs.JobList.{IsJobs, jobs_in}
 use Rattle.mt_jobs.proofs.Numbers.{IsJobAt, plan_if, plan_where}
 
 not_not : (b : Bool) → not b ≡ false → b ≡ true
@@ -62,13 +62,13 @@ module _ {B : Type 0} where
   all_at P (x ∷ xs) zero job all at = subst P (ap (λ o. unwrap_or o x) at) (All-head P x xs all)
   all_at P (x ∷ xs) (suc k) job all at = all_at P xs k job (All-tail P x xs all) at
 
-  pub kept_at : (kept : List (Kept B)) (k : ℕ) (old : Kept B) → All IsKept kept → slice_get kept k ≡ Some old → IsKept old
+  pub kept_at : (kept : List (FedJob B)) (k : ℕ) (old : FedJob B) → All IsKept kept → slice_get kept k ≡ Some old → IsKept old
   kept_at [] k old all at = cc
   kept_at (x ∷ xs) zero old all at = subst IsKept (ap (λ o. unwrap_or o x) at) (All-head IsKept x xs all)
   kept_at (x ∷ xs) (suc k) old all at = kept_at xs k old (All-tail IsKept x xs all) at
 
   -- the plan of a job that runs is kept beside its number
-  pub plan_here : (number : ℕ) (kept : List (Kept B)) (plans : List (ℕ × Plan)) (running done : List ℕ) (k : ℕ) (old : Kept B) → IsJobs kept plans running done → IsJobAt number kept k old → is_running old.job ≡ true → plan_at plans old.job.number ≡ Some (plan_of old.job)
+  pub plan_here : (number : ℕ) (kept : List (FedJob B)) (plans : List (ℕ × Plan)) (running done : List ℕ) (k : ℕ) (old : FedJob B) → IsJobs kept plans running done → IsJobAt number kept k old → is_running old.job ≡ true → plan_at plans old.job.number ≡ Some (plan_of old.job)
   plan_here number kept plans running done k old is at runs =
       ap (λ p. plan_at p old.job.number) is.plans_are
       ∙ ap (plan_at (plans_of (jobs_in kept))) at.number_is

@@ -19,9 +19,9 @@ use Rattle.mt_sched.specs.PlanOfJob.{plan_of, plans_of}
 use Rattle.mt_sched.specs.PlanSteps.{with_plan}
 use Rattle.mt_sched.proofs.Entries.{no_plan as plan_not_there}
 use Rattle.mt_sched.proofs.Filters.{differ}
-use Rattle.mt_feeds.specs.declared.kept.Kept.{Kept}
-use Rattle.mt_feeds.specs.Kept.{IsKept}
-use Rattle.mt_jobs.specs.Kept.{IsJobs, done_of, jobs_in, numbers_of, running_of}
+use Rattle.mt_feeds.specs.declared.kept.FedJob.{FedJob}
+use Rattle.mt_feeds.specs.FedJob.{IsKept}
+use Rattle.mt_jobs.specs.JobList.{IsJobs, done_of, jobs_in, numbers_of, running_of}
 use Rattle.mt_jobs.proofs.Numbers.{below_first, no_plan}
 
 -- ---- plans that change twice
@@ -93,29 +93,29 @@ module _ {B : Type 0} where
 
   -- ---- all that is kept
 
-  pub jobs_written : (kept : List (Kept B)) (k : ℕ) (new : Kept B) → jobs_in (set kept k new) ≡ set (jobs_in kept) k new.job
-  jobs_written kept k new = map-set (λ (x : Kept B). x.job) kept k new
+  pub jobs_written : (kept : List (FedJob B)) (k : ℕ) (new : FedJob B) → jobs_in (set kept k new) ≡ set (jobs_in kept) k new.job
+  jobs_written kept k new = map-set (λ (x : FedJob B). x.job) kept k new
 
-  pub same_numbers : (kept : List (Kept B)) (k : ℕ) (old new : Kept B) → slice_get kept k ≡ Some old → new.job.number ≡ old.job.number → numbers_of (jobs_in (set kept k new)) ≡ numbers_of (jobs_in kept)
+  pub same_numbers : (kept : List (FedJob B)) (k : ℕ) (old new : FedJob B) → slice_get kept k ≡ Some old → new.job.number ≡ old.job.number → numbers_of (jobs_in (set kept k new)) ≡ numbers_of (jobs_in kept)
   same_numbers kept k old new at number =
-      map-map (λ (j : Job B). j.number) (λ (x : Kept B). x.job) (set kept k new)
-      ∙ map-set_same (λ (x : Kept B). x.job.number) kept k new old (number ∙ ap (λ (x : Kept B). x.job.number) (sym (get_or_from_slice_get kept k old old at)))
-      ∙ sym (map-map (λ (j : Job B). j.number) (λ (x : Kept B). x.job) kept)
+      map-map (λ (j : Job B). j.number) (λ (x : FedJob B). x.job) (set kept k new)
+      ∙ map-set_same (λ (x : FedJob B). x.job.number) kept k new old (number ∙ ap (λ (x : FedJob B). x.job.number) (sym (get_or_from_slice_get kept k old old at)))
+      ∙ sym (map-map (λ (j : Job B). j.number) (λ (x : FedJob B). x.job) kept)
 
-  pub at_job : (kept : List (Kept B)) (k : ℕ) (old : Kept B) → slice_get kept k ≡ Some old → slice_get (jobs_in kept) k ≡ Some old.job
-  at_job kept k old at = slice_get-map (λ (x : Kept B). x.job) kept k ∙ ap (option_map (λ (x : Kept B). x.job)) at
+  pub at_job : (kept : List (FedJob B)) (k : ℕ) (old : FedJob B) → slice_get kept k ≡ Some old → slice_get (jobs_in kept) k ≡ Some old.job
+  at_job kept k old at = slice_get-map (λ (x : FedJob B). x.job) kept k ∙ ap (option_map (λ (x : FedJob B). x.job)) at
 
-  pub small_at : (kept : List (Kept B)) (k : ℕ) (old : Kept B) → All (λ x. x.job.number < 2 ^ 62) kept → slice_get kept k ≡ Some old → old.job.number < 2 ^ 62
+  pub small_at : (kept : List (FedJob B)) (k : ℕ) (old : FedJob B) → All (λ x. x.job.number < 2 ^ 62) kept → slice_get kept k ≡ Some old → old.job.number < 2 ^ 62
   small_at [] k old all at = cc
-  small_at (x ∷ xs) zero old all at = subst (λ (c : Kept B). c.job.number < 2 ^ 62) (ap (λ o. unwrap_or o x) at) (All-head (λ (c : Kept B). c.job.number < 2 ^ 62) x xs all)
-  small_at (x ∷ xs) (suc k) old all at = small_at xs k old (All-tail (λ (c : Kept B). c.job.number < 2 ^ 62) x xs all) at
+  small_at (x ∷ xs) zero old all at = subst (λ (c : FedJob B). c.job.number < 2 ^ 62) (ap (λ o. unwrap_or o x) at) (All-head (λ (c : FedJob B). c.job.number < 2 ^ 62) x xs all)
+  small_at (x ∷ xs) (suc k) old all at = small_at xs k old (All-tail (λ (c : FedJob B). c.job.number < 2 ^ 62) x xs all) at
 
   -- a job that runs on is written at its place, with what is kept of it, and its plan changes
-  pub jobs_changed : (f : Plan → Plan) (kept : List (Kept B)) (plans later : List (ℕ × Plan)) (running done : List ℕ) (k : ℕ) (old new : Kept B) → IsJobs kept plans running done → slice_get kept k ≡ Some old → IsKept new
+  pub jobs_changed : (f : Plan → Plan) (kept : List (FedJob B)) (plans later : List (ℕ × Plan)) (running done : List ℕ) (k : ℕ) (old new : FedJob B) → IsJobs kept plans running done → slice_get kept k ≡ Some old → IsKept new
       → new.job.number ≡ old.job.number → is_running new.job ≡ is_running old.job → plan_of new.job ≡ f (plan_of old.job) → later ≡ with_plan plans old.job.number f → IsJobs (set kept k new) later running done
   jobs_changed f kept plans later running done k old new is at good number runs plan later_is = record {
     rising = subst (IsStrictlySortedBy nat_cmp) (sym (same_numbers kept k old new at number)) is.rising;
-    small = All-set (λ (x : Kept B). x.job.number < 2 ^ 62) kept k new (subst (λ n. n < 2 ^ 62) (sym number) (small_at kept k old is.small at)) is.small;
+    small = All-set (λ (x : FedJob B). x.job.number < 2 ^ 62) kept k new (subst (λ n. n < 2 ^ 62) (sym number) (small_at kept k old is.small at)) is.small;
     each = All-set IsKept kept k new good is.each;
     plans_are =
         later_is ∙ ap (λ l. with_plan l old.job.number f) is.plans_are

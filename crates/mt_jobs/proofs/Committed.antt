@@ -10,12 +10,12 @@ use Rattle.mt_model.specs.Rows.{Rows}
 use Rattle.mt_sched.specs.Plan.{Plan}
 use Rattle.mt_sched.specs.PlanSteps.{committed_in, grown, with_plan}
 use Rattle.mt_resolve.specs.Committing.{committing_of}
-use Rattle.mt_feeds.specs.declared.kept.Kept.{Kept}
-use Rattle.mt_feeds.specs.Kept.{IsKept}
+use Rattle.mt_feeds.specs.declared.kept.FedJob.{FedJob}
+use Rattle.mt_feeds.specs.FedJob.{IsKept}
 use Rattle.mt_jobs.specs.Committed.{HasCommitted}
 
 module _ {B : Type 0} {T E : Type 0} where
-  pub has_committed : (r : Result T E) (old : Kept B) (rows : Rows B) (plans : List (ℕ × Plan)) (phase place : ℕ) (fate : Fate B) (position moment : ℕ) (new : Kept B) (left : Rows B) (later : List (ℕ × Plan)) (entry : TraceEntry B)
+  pub has_committed : (r : Result T E) (old : FedJob B) (rows : Rows B) (plans : List (ℕ × Plan)) (phase place : ℕ) (fate : Fate B) (position moment : ℕ) (new : FedJob B) (left : Rows B) (later : List (ℕ × Plan)) (entry : TraceEntry B)
       → entry ≡ record { phase = phase; place = place; position = position; outcome = (resolve (committing_of old.job phase place position moment) rows fate).outcome }
       → left ≡ (resolve (committing_of old.job phase place position moment) rows fate).rows
       → OnOk r (new.job ≡ with_entry entry old.job) → OnOk r (IsKept new)

@@ -22,9 +22,9 @@ use Rattle.mt_sched.specs.PlanSteps.{without_plan}
 use Rattle.mt_sched.proofs.Filters.{differ}
 use Rattle.mt_sched.proofs.Jobs.{plans_of_done}
 use Rattle.mt_sched.proofs.Orders.{remove_filter, same_test}
-use Rattle.mt_feeds.specs.declared.kept.Kept.{Kept}
-use Rattle.mt_feeds.specs.Kept.{IsKept}
-use Rattle.mt_jobs.specs.Kept.{IsJobs, done_of, jobs_in, numbers_of, running_of}
+use Rattle.mt_feeds.specs.declared.kept.FedJob.{FedJob}
+use Rattle.mt_feeds.specs.FedJob.{IsKept}
+use Rattle.mt_jobs.specs.JobList.{IsJobs, done_of, jobs_in, numbers_of, running_of}
 use Rattle.mt_jobs.proofs.Changes.{at_job, jobs_written, same_numbers, small_at}
 use Rattle.mt_jobs.proofs.Numbers.{below_first, with_job_is}
 
@@ -116,7 +116,7 @@ module _ {B : Type 0} where
   -- ---- all that is kept
 
   -- a job that is done is written at its place; its plan goes, and its number moves
-  pub jobs_ended : (moment : ℕ) (cancelled : Bool) (kept : List (Kept B)) (plans : List (ℕ × Plan)) (running done : List ℕ) (k : ℕ) (old new : Kept B) → IsJobs kept plans running done → slice_get kept k ≡ Some old → IsKept new → new.job ≡ done_at moment cancelled old.job
+  pub jobs_ended : (moment : ℕ) (cancelled : Bool) (kept : List (FedJob B)) (plans : List (ℕ × Plan)) (running done : List ℕ) (k : ℕ) (old new : FedJob B) → IsJobs kept plans running done → slice_get kept k ≡ Some old → IsKept new → new.job ≡ done_at moment cancelled old.job
       → IsStrictlySortedBy nat_cmp running → IsJobs (set kept k new) (without_plan plans old.job.number) (remove_key (is_at (nat_cmp old.job.number)) running) (insert_key nat_cmp done old.job.number)
   jobs_ended moment cancelled kept plans running done k old new is at good ends sorted =
       let number : new.job.number ≡ old.job.number = ap (λ (x : Job B). x.number) ends in
@@ -125,7 +125,7 @@ module _ {B : Type 0} where
       let there = at_job kept k old at in
       record {
         rising = subst (IsStrictlySortedBy nat_cmp) (sym (same_numbers kept k old new at number)) is.rising;
-        small = All-set (λ (x : Kept B). x.job.number < 2 ^ 62) kept k new (subst (λ n. n < 2 ^ 62) (sym number) (small_at kept k old is.small at)) is.small;
+        small = All-set (λ (x : FedJob B). x.job.number < 2 ^ 62) kept k new (subst (λ n. n < 2 ^ 62) (sym number) (small_at kept k old is.small at)) is.small;
         each = All-set IsKept kept k new good is.each;
         plans_are =
             ap (λ l. without_plan l old.job.number) is.plans_are
@@ -142,7 +142,7 @@ module _ {B : Type 0} where
             ∙ ap done_of (sym written);
       }
 
-  set_back : (xs : List (Kept B)) (k : ℕ) (x : Kept B) → slice_get xs k ≡ Some x → set xs k x ≡ xs
+  set_back : (xs : List (FedJob B)) (k : ℕ) (x : FedJob B) → slice_get xs k ≡ Some x → set xs k x ≡ xs
   set_back [] k x at = refl
   set_back (y ∷ ys) zero x at = ap (λ z. z ∷ ys) (ap (λ o. unwrap_or o x) (sym at))
   set_back (y ∷ ys) (suc k) x at = ap (λ l. y ∷ l) (set_back ys k x at)
@@ -166,7 +166,7 @@ module _ {B : Type 0} where
   rising_left t (j ∷ js) rising = rising_case t j js (t j) (all_left t j.number js (sorted_head nat_cmp j.number (numbers_of js) rising)) (rising_left t js (sorted_tail nat_cmp j.number (numbers_of js) rising))
 
   -- it ends, or on want of memory nothing changes
-  pub ended_either : {E : Type 0} (r : Result (Unit {0}) E) (moment : ℕ) (cancelled : Bool) (kept : List (Kept B)) (plans later : List (ℕ × Plan)) (running run done don : List ℕ) (k : ℕ) (old new : Kept B) → IsJobs kept plans running done → slice_get kept k ≡ Some old
+  pub ended_either : {E : Type 0} (r : Result (Unit {0}) E) (moment : ℕ) (cancelled : Bool) (kept : List (FedJob B)) (plans later : List (ℕ × Plan)) (running run done don : List ℕ) (k : ℕ) (old new : FedJob B) → IsJobs kept plans running done → slice_get kept k ≡ Some old
       → OnOk r (new.job ≡ done_at moment cancelled old.job) → OnOk r (IsKept new) → OnOk r (later ≡ without_plan plans old.job.number) → OnOk r (run ≡ remove_key (is_at (nat_cmp old.job.number)) running) → OnOk r (don ≡ insert_key nat_cmp done old.job.number)
       → OnErr r ((new ≡ old) × (later ≡ plans) × (run ≡ running) × (don ≡ done)) → IsJobs (set kept k new) later run don
   ended_either (Ok x) moment cancelled kept plans later running run done don k old new is at ends good later_is run_is don_is same =

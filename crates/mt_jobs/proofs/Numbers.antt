@@ -18,18 +18,18 @@ use Rattle.mt_model.specs.State.{job_at, with_job}
 use Rattle.mt_model.specs.Tasks.{is_running}
 use Rattle.mt_model.proofs.Maps.{find-map}
 use Rattle.mt_model.proofs.Shares.{beyond}
-use Rattle.mt_sched.specs.Kept.{plan_at}
+use Rattle.mt_sched.specs.Plans.{plan_at}
 use Rattle.mt_sched.specs.Plan.{Plan}
 use Rattle.mt_sched.specs.PlanOfJob.{plan_of, plans_of}
 use Rattle.mt_sched.proofs.Filters.{differ}
 use Rattle.mt_sched.proofs.Orders.{same_test}
-use Rattle.mt_feeds.specs.declared.kept.Kept.{Kept}
-use Rattle.mt_jobs.specs.Kept.{IsFound, jobs_in, numbers_of}
+use Rattle.mt_feeds.specs.declared.kept.FedJob.{FedJob}
+use Rattle.mt_jobs.specs.JobList.{IsFound, jobs_in, numbers_of}
 
 module _ {B : Type 0} where
   -- the job of a number, with and without what is kept beside it
-  pub job_of_kept : (number : ℕ) (kept : List (Kept B)) → job_at (jobs_in kept) number ≡ option_map (λ k. k.job) (find (λ k. k.job.number == number) kept)
-  job_of_kept number kept = find-map (λ (k : Kept B). k.job) (λ j. j.number == number) kept
+  pub job_of_kept : (number : ℕ) (kept : List (FedJob B)) → job_at (jobs_in kept) number ≡ option_map (λ k. k.job) (find (λ k. k.job.number == number) kept)
+  job_of_kept number kept = find-map (λ (k : FedJob B). k.job) (λ j. j.number == number) kept
 
   -- the plan of a job that runs, if there is one
   abbrev pub plan_if : Option (Job B) → Option Plan
@@ -151,13 +151,13 @@ equal_is a x e = by (cases_lt a x) (cases_lt x a)
     by (inr ge) (inr le) = omega (arith, ge, le)
 
 module _ {B : Type 0} where
-  abbrev number_at : Kept B → ℕ
+  abbrev number_at : FedJob B → ℕ
   number_at k = k.job.number
 
-  below_all : (k : Kept B) (ks : List (Kept B)) → IsStrictlySortedBy nat_cmp (numbers_of (jobs_in (k ∷ ks))) → (j : ℕ) (d : Kept B) → j < length ks → number_at k ≤ number_at (get_or ks j d)
+  below_all : (k : FedJob B) (ks : List (FedJob B)) → IsStrictlySortedBy nat_cmp (numbers_of (jobs_in (k ∷ ks))) → (j : ℕ) (d : FedJob B) → j < length ks → number_at k ≤ number_at (get_or ks j d)
   below_all k ks rising j d less = by ks (sorted_head nat_cmp k.job.number (numbers_of (jobs_in ks)) rising) j less
     where
-      by : (xs : List (Kept B)) → AllByRecursion (λ n. nat_cmp k.job.number n ≡ Less) (numbers_of (jobs_in xs)) → (j : ℕ) → j < length xs → number_at k ≤ number_at (get_or xs j d)
+      by : (xs : List (FedJob B)) → AllByRecursion (λ n. nat_cmp k.job.number n ≡ Less) (numbers_of (jobs_in xs)) → (j : ℕ) → j < length xs → number_at k ≤ number_at (get_or xs j d)
       by [] above j less = absurd (omega arith)
       by (x ∷ xs) above zero less = less_from (cases_lt k.job.number x.job.number)
         where
@@ -171,60 +171,60 @@ module _ {B : Type 0} where
       by (x ∷ xs) above (suc j) less = by xs above.1 j (omega (arith, less))
 
   -- numbers rise from place to place
-  rises : (kept : List (Kept B)) → IsStrictlySortedBy nat_cmp (numbers_of (jobs_in kept)) → (i j : ℕ) (d : Kept B) → i ≤ j → j < length kept → number_at (get_or kept i d) ≤ number_at (get_or kept j d)
+  rises : (kept : List (FedJob B)) → IsStrictlySortedBy nat_cmp (numbers_of (jobs_in kept)) → (i j : ℕ) (d : FedJob B) → i ≤ j → j < length kept → number_at (get_or kept i d) ≤ number_at (get_or kept j d)
   rises [] rising i j d le less = absurd (omega arith)
   rises (k ∷ ks) rising zero zero d le less = omega arith
   rises (k ∷ ks) rising zero (suc j) d le less = below_all k ks rising j d (omega (arith, less))
   rises (k ∷ ks) rising (suc i) zero d le less = absurd (omega arith)
   rises (k ∷ ks) rising (suc i) (suc j) d le less = rises ks (sorted_tail nat_cmp k.job.number (numbers_of (jobs_in ks)) rising) i j d (omega (arith, le)) (omega (arith, less))
 
-  find_none_at : (number : ℕ) (kept : List (Kept B)) → ((i : ℕ) (k : Kept B) → slice_get kept i ≡ Some k → (k.job.number == number) ≡ false) → find (λ k. k.job.number == number) kept ≡ None
+  find_none_at : (number : ℕ) (kept : List (FedJob B)) → ((i : ℕ) (k : FedJob B) → slice_get kept i ≡ Some k → (k.job.number == number) ≡ false) → find (λ k. k.job.number == number) kept ≡ None
   find_none_at number [] never = refl
   find_none_at number (k ∷ ks) never =
       ap (λ b. cond b (Some k) (find (λ k. k.job.number == number) ks)) (never 0 k refl) ∙ find_none_at number ks (λ i x at. never (suc i) x at)
 
-  later_is_other : (number : ℕ) (i : ℕ) (k : Kept B) (ks : List (Kept B)) → AllByRecursion (λ n. nat_cmp number n ≡ Less) (numbers_of (jobs_in ks)) → slice_get ks i ≡ Some k → k.job.number ≡ number → ⊥
+  later_is_other : (number : ℕ) (i : ℕ) (k : FedJob B) (ks : List (FedJob B)) → AllByRecursion (λ n. nat_cmp number n ≡ Less) (numbers_of (jobs_in ks)) → slice_get ks i ≡ Some k → k.job.number ≡ number → ⊥
   later_is_other number i k [] above at same = cc
   later_is_other number zero k (x ∷ xs) above at same =
       let is : x ≡ k = ap (λ o. unwrap_or o x) at in
       let off : (x.job.number == number) ≡ false = sym (same_test number x.job.number) ∙ ap is_eq above.0 in
-      true≢false (sym (eq-eqb x.job.number number (ap (λ (c : Kept B). c.job.number) is ∙ same)) ∙ off)
+      true≢false (sym (eq-eqb x.job.number number (ap (λ (c : FedJob B). c.job.number) is ∙ same)) ∙ off)
   later_is_other number (suc i) k (x ∷ xs) above at same = later_is_other number i k xs above.1 at same
 
   -- the job at a place is the first of its number
-  find_here : (number : ℕ) (kept : List (Kept B)) (i : ℕ) (k : Kept B) → IsStrictlySortedBy nat_cmp (numbers_of (jobs_in kept)) → slice_get kept i ≡ Some k → k.job.number ≡ number → find (λ k. k.job.number == number) kept ≡ Some k
+  find_here : (number : ℕ) (kept : List (FedJob B)) (i : ℕ) (k : FedJob B) → IsStrictlySortedBy nat_cmp (numbers_of (jobs_in kept)) → slice_get kept i ≡ Some k → k.job.number ≡ number → find (λ k. k.job.number == number) kept ≡ Some k
   find_here number [] i k rising at same = cc
   find_here number (x ∷ xs) zero k rising at same =
       let is : x ≡ k = ap (λ o. unwrap_or o x) at in
-      ap (λ b. cond b (Some x) (find (λ k. k.job.number == number) xs)) (eq-eqb x.job.number number (ap (λ (c : Kept B). c.job.number) is ∙ same)) ∙ ap Some is
+      ap (λ b. cond b (Some x) (find (λ k. k.job.number == number) xs)) (eq-eqb x.job.number number (ap (λ (c : FedJob B). c.job.number) is ∙ same)) ∙ ap Some is
   find_here number (x ∷ xs) (suc i) k rising at same =
       ap (λ b. cond b (Some x) (find (λ k. k.job.number == number) xs))
       (differ x.job.number number (λ e. later_is_other x.job.number i k xs (sorted_head nat_cmp x.job.number (numbers_of (jobs_in xs)) rising) at (same ∙ sym e)) (x.job.number == number) refl)
       ∙ find_here number xs i k (sorted_tail nat_cmp x.job.number (numbers_of (jobs_in xs)) rising) at same
 
-  ok_case : (number : ℕ) (kept : List (Kept B)) (i : ℕ) → IsStrictlySortedBy nat_cmp (numbers_of (jobs_in kept)) → ((d : Kept B) → nat_cmp (number_at (get_or kept i d)) number ≡ Equal) → i < length kept
-      → (o : Option (Kept B)) → slice_get kept i ≡ o → IsFound number kept (Some i)
+  ok_case : (number : ℕ) (kept : List (FedJob B)) (i : ℕ) → IsStrictlySortedBy nat_cmp (numbers_of (jobs_in kept)) → ((d : FedJob B) → nat_cmp (number_at (get_or kept i d)) number ≡ Equal) → i < length kept
+      → (o : Option (FedJob B)) → slice_get kept i ≡ o → IsFound number kept (Some i)
   ok_case number kept i rising equal less None at = absurd (let past = beyond kept i at in omega (arith, past, less))
   ok_case number kept i rising equal less (Some k) at =
       let here : get_or kept i k ≡ k = get_or_from_slice_get kept i k k at in
-      let same : k.job.number ≡ number = equal_is k.job.number number (ap (λ (c : Kept B). nat_cmp c.job.number number) (sym here) ∙ equal k) in
+      let same : k.job.number ≡ number = equal_is k.job.number number (ap (λ (c : FedJob B). nat_cmp c.job.number number) (sym here) ∙ equal k) in
       record { there = at ∙ sym (find_here number kept i k rising at same); within = less }
 
-  err_case : (number : ℕ) (kept : List (Kept B)) (i : ℕ) → ((k : ℕ) (d : Kept B) → 0 ≤ k → k < i → nat_cmp (number_at (get_or kept k d)) number ≡ Less) → ((k : ℕ) (d : Kept B) → i ≤ k → k < length kept → nat_cmp (number_at (get_or kept k d)) number ≡ Greater)
-      → (j : ℕ) (k : Kept B) → slice_get kept j ≡ Some k → (k.job.number == number) ≡ false
+  err_case : (number : ℕ) (kept : List (FedJob B)) (i : ℕ) → ((k : ℕ) (d : FedJob B) → 0 ≤ k → k < i → nat_cmp (number_at (get_or kept k d)) number ≡ Less) → ((k : ℕ) (d : FedJob B) → i ≤ k → k < length kept → nat_cmp (number_at (get_or kept k d)) number ≡ Greater)
+      → (j : ℕ) (k : FedJob B) → slice_get kept j ≡ Some k → (k.job.number == number) ≡ false
   err_case number kept i low high j k at = by (cases_lt j i)
     where
       here : get_or kept j k ≡ k
       here = get_or_from_slice_get kept j k k at
 
       off : (o : Ordering) → nat_cmp (number_at (get_or kept j k)) number ≡ o → (o ≡ Equal → ⊥) → (k.job.number == number) ≡ false
-      off o is never = differ k.job.number number (λ same. never (sym is ∙ ap (λ (c : Kept B). nat_cmp c.job.number number) here ∙ sym (nat_cmp_is k.job.number number Equal same))) (k.job.number == number) refl
+      off o is never = differ k.job.number number (λ same. never (sym is ∙ ap (λ (c : FedJob B). nat_cmp c.job.number number) here ∙ sym (nat_cmp_is k.job.number number Equal same))) (k.job.number == number) refl
 
       by : (j < i) ⊎ (i ≤ j) → (k.job.number == number) ≡ false
       by (inl less) = off Less (low j k (omega arith) less) (λ e. cc)
       by (inr le) = off Greater (high j k le (slice_get_within kept j k at)) (λ e. cc)
 
-  pub searched : (number : ℕ) (kept : List (Kept B)) (r : Result ℕ ℕ) → IsStrictlySortedBy nat_cmp (numbers_of (jobs_in kept)) → IsSearchInRange r (length kept) → IsBinarySearchResult (λ k. nat_cmp (number_at k) number) kept r → IsFound number kept (place_of r)
+  pub searched : (number : ℕ) (kept : List (FedJob B)) (r : Result ℕ ℕ) → IsStrictlySortedBy nat_cmp (numbers_of (jobs_in kept)) → IsSearchInRange r (length kept) → IsBinarySearchResult (λ k. nat_cmp (number_at k) number) kept r → IsFound number kept (place_of r)
   searched number kept (Ok i) rising within found = ok_case number kept i rising found within (slice_get kept i) refl
   searched number kept (Err i) rising within found =
       let parts = found (λ a b d le less. index_rises number (number_at (get_or kept a d)) (number_at (get_or kept b d)) (rises kept rising a b d le less)) in
@@ -234,12 +234,12 @@ module _ {B : Type 0} where
   -- ---- the job that is found
 
   -- where it stands, that it is the one of the number, and that it has the number
-  pub record IsJobAt (number : ℕ) (kept : List (Kept B)) (k : ℕ) (old : Kept B) : Type 0 where
+  pub record IsJobAt (number : ℕ) (kept : List (FedJob B)) (k : ℕ) (old : FedJob B) : Type 0 where
     pub there : slice_get kept k ≡ Some old
     pub job : job_at (jobs_in kept) number ≡ Some old.job
     pub number_is : old.job.number ≡ number
 
-  find_true : (t : Kept B → Bool) (xs : List (Kept B)) (x : Kept B) → find t xs ≡ Some x → t x ≡ true
+  find_true : (t : FedJob B → Bool) (xs : List (FedJob B)) (x : FedJob B) → find t xs ≡ Some x → t x ≡ true
   find_true t [] x is = cc
   find_true t (y ∷ ys) x is = by (t y) refl is (find_true t ys x)
     where
@@ -247,15 +247,15 @@ module _ {B : Type 0} where
       by true e is more = ap t (sym (ap (λ o. unwrap_or o y) is)) ∙ e
       by false e is more = more is
 
-  pub found_job : (number : ℕ) (kept : List (Kept B)) (k : ℕ) (old : Kept B) → IsFound number kept (Some k) → old ≡ get_or kept k old → IsJobAt number kept k old
+  pub found_job : (number : ℕ) (kept : List (FedJob B)) (k : ℕ) (old : FedJob B) → IsFound number kept (Some k) → old ≡ get_or kept k old → IsJobAt number kept k old
   found_job number kept k old found is =
       let at : slice_get kept k ≡ Some old = slice_get-get_or kept k old found.within ∙ ap (λ x. Some x) (sym is) in
       let first : find (λ x. x.job.number == number) kept ≡ Some old = sym found.there ∙ at in
       record {
         there = at;
-        job = job_of_kept number kept ∙ ap (option_map (λ (x : Kept B). x.job)) first;
+        job = job_of_kept number kept ∙ ap (option_map (λ (x : FedJob B). x.job)) first;
         number_is = eqb-true old.job.number number (find_true (λ x. x.job.number == number) kept old first);
       }
 
-  pub found_none : (number : ℕ) (kept : List (Kept B)) → IsFound number kept None → job_at (jobs_in kept) number ≡ None
-  found_none number kept found = job_of_kept number kept ∙ ap (option_map (λ (x : Kept B). x.job)) (sym found.there)
+  pub found_none : (number : ℕ) (kept : List (FedJob B)) → IsFound number kept None → job_at (jobs_in kept) number ≡ None
+  found_none number kept found = job_of_kept number kept ∙ ap (option_map (λ (x : FedJob B). x.job)) (sym found.there)

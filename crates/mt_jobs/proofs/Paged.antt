@@ -13,7 +13,7 @@ use Rattle.mt_model.specs.State.{job_at}
 use Rattle.mt_model.proofs.Maps.{filter-map, take-map}
 use Rattle.mt_sched.proofs.Orders.{same_test}
 use Rattle.mt_types.specs.declared.live.JobStand.{JobStand}
-use Rattle.mt_jobs.specs.Kept.{numbers_of}
+use Rattle.mt_jobs.specs.JobList.{numbers_of}
 use Rattle.mt_jobs.specs.Pages.{page_of, standing, stands}
 
 module _ {B : Type 0} where

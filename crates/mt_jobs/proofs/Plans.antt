@@ -16,7 +16,7 @@ use Rattle.mt_model.specs.Tasks.{is_committed, is_ready, is_running, is_task, is
 use Rattle.mt_model.proofs.Entry.{holds_if}
 use Rattle.mt_model.proofs.LawfulInputs.{and_both, and_left, and_right}
 use Rattle.mt_model.proofs.RowLaws.{neither, not_refused}
-use Rattle.mt_sched.specs.Kept.{plan_at}
+use Rattle.mt_sched.specs.Plans.{plan_at}
 use Rattle.mt_sched.specs.Plan.{Plan}
 use Rattle.mt_sched.specs.PlanOfJob.{plan_of}
 use Rattle.mt_sched.specs.PlanSteps.{committed_in, ended_plan, grown, with_plan}

@@ -12,8 +12,8 @@ use Rattle.mt_types.specs.declared.object.Object.{Object}
 use Rattle.mt_model.specs.JobSteps.{with_line, with_lines, with_named}
 use Rattle.mt_model.specs.Rows.{Rows, object_at}
 use Rattle.mt_model.specs.Tasks.{is_running}
-use Rattle.mt_feeds.specs.declared.kept.Kept.{Kept}
-use Rattle.mt_feeds.specs.Kept.{AreFeeds, AreShares, IsKept, index_of, lists_of, shares_of}
+use Rattle.mt_feeds.specs.declared.kept.FedJob.{FedJob}
+use Rattle.mt_feeds.specs.FedJob.{AreFeeds, AreShares, IsKept, index_of, lists_of, shares_of}
 use Rattle.mt_feeds.proofs.Opened.{none_before}
 
 module _ {B : Type 0} where
@@ -50,7 +50,7 @@ module _ {B : Type 0} where
   lines_rest rows (l ∷ ls) job = rest_then job (with_line rows job l) (with_lines rows ls (with_line rows job l)) (line_rest rows job l) (lines_rest rows ls (with_line rows job l))
 
   -- what is kept stays right, while the input has not ended
-  pub kept_posted : (k new : Kept B) → IsKept k → KeepsRest k.job new.job → new.feeds ≡ k.feeds → new.shares ≡ k.shares → k.job.ended ≡ false → IsKept new
+  pub kept_posted : (k new : FedJob B) → IsKept k → KeepsRest k.job new.job → new.feeds ≡ k.feeds → new.shares ≡ k.shares → k.job.ended ≡ false → IsKept new
   kept_posted k new is rest feeds shares so_far = record {
     feeds = record {
       each = ap (λ f. length f.items) feeds ∙ is.feeds.each ∙ ap (λ (d : JobDocument). length d.phases) (sym rest.document);

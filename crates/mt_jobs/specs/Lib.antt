@@ -1,5 +1,5 @@
 pub mod Shown
-pub mod Kept
+pub mod JobList
 pub mod Archive
 pub mod Committed
 pub mod Queues

@@ -7,16 +7,16 @@ ghost use Rattle.mt_model.specs.JobSteps.{task_root, with_entry};
 ghost use Rattle.mt_model.specs.Resolve.{resolve};
 ghost use Rattle.mt_model.specs.Sound.{Sound};
 ghost use Rattle.mt_model.specs.Tasks.{is_ready};
-ghost use Rattle.mt_sched.specs.Kept.{plan_at};
+ghost use Rattle.mt_sched.specs.Plans.{plan_at};
 ghost use Rattle.mt_sched.specs.PlanOfJob.{plan_of};
 ghost use Rattle.mt_sched.specs.PlanSteps.{committed_in, grown, with_plan};
 ghost use Rattle.mt_jobs.specs.Committed.{HasCommitted};
 ghost use Rattle.mt_resolve.specs.Committing.{IsCommitting, committing_of};
-ghost use Rattle.mt_feeds.specs.Kept.{AreFeeds, IsKept};
+ghost use Rattle.mt_feeds.specs.FedJob.{AreFeeds, IsKept};
 ghost use Rattle.mt_resolve.specs.Taking.{HasReady};
 
 use crate::jobs::{Jobs, find};
-use mt_feeds::{Kept, count_of};
+use mt_feeds::{FedJob, count_of};
 use mt_resolve::{Committing, resolve};
 use mt_sched::Sched;
 use mt_tree::Tree;
@@ -24,7 +24,7 @@ use mt_types::{Duplicate, Fate, PhaseKind, Task, Text, TraceEntry};
 use std::alloc::{AllocError, Global};
 
 // What the names of a task's outputs begin with.
-fn task_root<B>(alloc: Global, kept: &Kept<B>, phase: u32, place: u64) -> Result<Text, AllocError>
+fn task_root<B>(alloc: Global, kept: &FedJob<B>, phase: u32, place: u64) -> Result<Text, AllocError>
     requires { AreFeeds kept.now.job kept.now.feeds.items }
     ensures { IfOk result (λ t. t ≡ task_root kept.now.job phase place) }
 {
@@ -53,7 +53,7 @@ fn feed_all(sched: &mut Sched, job: u64, phase: u32, count: usize) -> Result<(),
 // A task of a job is committed with this entry: in its trace, in its queue and in what is kept beside it.
 fn enter<B: Drop>(
     alloc: Global,
-    kept: &mut Kept<B>,
+    kept: &mut FedJob<B>,
     sched: &mut Sched,
     entry: TraceEntry<B>,
 ) -> Result<(), AllocError>
@@ -87,7 +87,7 @@ fn enter<B: Drop>(
 fn entry_of<B: Duplicate>(
     alloc: Global,
     tree: &mut Tree<B>,
-    kept: &Kept<B>,
+    kept: &FedJob<B>,
     task: &Task,
     fate: &Fate<B>,
     position: u64,
@@ -117,7 +117,7 @@ fn entry_of<B: Duplicate>(
 fn commit_kept<B: Duplicate>(
     alloc: Global,
     tree: &mut Tree<B>,
-    kept: &mut Kept<B>,
+    kept: &mut FedJob<B>,
     sched: &mut Sched,
     task: &Task,
     fate: &Fate<B>,

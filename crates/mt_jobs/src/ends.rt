@@ -12,10 +12,10 @@ ghost use Rattle.mt_model.specs.Names.{in_job_folder};
 ghost use Rattle.mt_model.specs.Rows.{with_row};
 ghost use Rattle.mt_sched.specs.PlanSteps.{without_plan};
 ghost use Rattle.mt_jobs.specs.Archive.{MayArchive};
-ghost use Rattle.mt_feeds.specs.Kept.{IsKept};
+ghost use Rattle.mt_feeds.specs.FedJob.{IsKept};
 
 use crate::jobs::{Jobs, find};
-use mt_feeds::Kept;
+use mt_feeds::FedJob;
 use mt_resolve::in_job_folder;
 use mt_sched::Sched;
 use mt_tree::Tree;
@@ -25,7 +25,7 @@ use std::collections::BTreeSet;
 
 // A job is done: its queue is dropped, and its number moves from one set to the other. On want of memory nothing has changed.
 fn end_kept<B>(
-    kept: &mut Kept<B>,
+    kept: &mut FedJob<B>,
     sched: &mut Sched,
     running: &mut BTreeSet<u64>,
     done: &mut BTreeSet<u64>,

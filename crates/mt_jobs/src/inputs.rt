@@ -5,13 +5,13 @@ ghost use Rattle.mt_model.specs.JobSteps.{with_end, with_line, with_lines};
 ghost use Rattle.mt_model.specs.Listing.{name_of};
 ghost use Rattle.mt_model.specs.Names.{root_of_input};
 ghost use Rattle.mt_model.specs.Tasks.{is_running};
-ghost use Rattle.mt_sched.specs.Kept.{plan_at};
+ghost use Rattle.mt_sched.specs.Plans.{plan_at};
 ghost use Rattle.mt_sched.specs.PlanOfJob.{inputs_in, plan_of};
 ghost use Rattle.mt_sched.specs.PlanSteps.{ended_plan, grown, with_plan};
-ghost use Rattle.mt_feeds.specs.Kept.{IsKept};
+ghost use Rattle.mt_feeds.specs.FedJob.{IsKept};
 
 use crate::jobs::{Jobs, find};
-use mt_feeds::Kept;
+use mt_feeds::FedJob;
 use mt_sched::Sched;
 use mt_tree::Tree;
 use mt_types::{Duplicate, InputLine, Item, Job, Path, Text};
@@ -114,7 +114,7 @@ fn add_all<B: Duplicate>(
 }
 
 // Ends the input of a job, and lays out the shares of what may then begin.
-fn end_kept<B>(alloc: Global, kept: &mut Kept<B>, sched: &mut Sched) -> Result<(), AllocError>
+fn end_kept<B>(alloc: Global, kept: &mut FedJob<B>, sched: &mut Sched) -> Result<(), AllocError>
     requires kept { IsKept kept.old }
     requires document { IsDocument kept.old.job.document }
     requires runs { is_running kept.old.job ≡ true }

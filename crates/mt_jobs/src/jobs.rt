@@ -2,9 +2,9 @@
 ghost use Rattle.std.specs.Prelude.{◌≡◌, []};
 ghost use Rattle.std.specs.List.Sorted.{IsStrictlySortedBy};
 ghost use Rattle.std.specs.Ordering.{nat_cmp};
-ghost use Rattle.mt_jobs.specs.Kept.{IsFound, jobs_in, numbers_of};
+ghost use Rattle.mt_jobs.specs.JobList.{IsFound, jobs_in, numbers_of};
 
-use mt_feeds::Kept;
+use mt_feeds::FedJob;
 use mt_sched::Sched;
 use mt_types::Job;
 use std::alloc::Global;
@@ -14,7 +14,7 @@ use std::marker::Model;
 /// The jobs of an account, generic in what a body is. Contracts see them as a list, in the order in which they were made.
 #[derive(Drop)]
 pub struct Jobs<B> {
-    pub(crate) jobs: Vec<Kept<B>>,
+    pub(crate) jobs: Vec<FedJob<B>>,
     pub(crate) sched: Sched,
     pub(crate) running: BTreeSet<u64>,
     pub(crate) done: BTreeSet<u64>,
@@ -23,7 +23,7 @@ pub struct Jobs<B> {
 impl<B> Model for Jobs<B> {
     ghost use Rattle.std.specs.Prelude.{List};
     ghost use Rattle.mt_types.specs.declared.job.Job.{Job};
-    ghost use Rattle.mt_jobs.specs.Kept.{IsJobs, jobs_in};
+    ghost use Rattle.mt_jobs.specs.JobList.{IsJobs, jobs_in};
 
     ghost Value = { List (Job B) };
 
@@ -33,7 +33,7 @@ impl<B> Model for Jobs<B> {
 }
 
 /// Where the job of a number stands, if there is one: a binary search.
-pub(crate) fn find<B>(jobs: &[Kept<B>], number: u64) -> Option<usize>
+pub(crate) fn find<B>(jobs: &[FedJob<B>], number: u64) -> Option<usize>
     requires { IsStrictlySortedBy nat_cmp (numbers_of (jobs_in jobs.now)) }
     ensures { IsFound number jobs.now result }
 {
@@ -47,7 +47,7 @@ impl<B> Jobs<B> {
     ghost use Rattle.std.specs.Prelude.{◌≡◌, [], IfSome, length, option_copied, slice_get};
     ghost use Rattle.std.specs.Option.{option_map};
     ghost use Rattle.mt_model.specs.State.{job_at};
-    ghost use Rattle.mt_feeds.specs.Kept.{IsKept};
+    ghost use Rattle.mt_feeds.specs.FedJob.{IsKept};
 
     /// No job.
     pub fn new(alloc: Global) -> Jobs<B>
@@ -80,7 +80,7 @@ impl<B> Jobs<B> {
 
     /// The job of a number, with what is kept beside it: where its outputs stand, and the shares of its reducers. A binary search;
     /// takes no memory.
-    pub fn kept(&self, number: u64) -> Option<&Kept<B>>
+    pub fn kept(&self, number: u64) -> Option<&FedJob<B>>
         ensures job { option_map (λ k. k.job) (option_copied result) ≡ job_at self.now number }
         ensures kept { IfSome result (λ k. IsKept k.now) }
     {

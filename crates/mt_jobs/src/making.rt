@@ -7,13 +7,13 @@ ghost use Rattle.mt_types.specs.declared.limits.TheConstants.{MOST_COMMANDS};
 ghost use Rattle.mt_model.specs.JobSteps.{bodies_of, has_large_assets, lacks_asset, new_job, new_job_refusal, with_folders};
 ghost use Rattle.mt_model.specs.Names.{job_folder, job_stor};
 ghost use Rattle.mt_model.specs.Rows.{IsTree, at};
-ghost use Rattle.mt_sched.specs.Kept.{IsAbove};
+ghost use Rattle.mt_sched.specs.Plans.{IsAbove};
 ghost use Rattle.mt_sched.specs.PlanOfJob.{kinds_of};
 ghost use Rattle.mt_sched.specs.PlanSteps.{first_plan};
 ghost use Rattle.mt_tree.specs.Answer.{answer};
 
 use crate::jobs::Jobs;
-use mt_feeds::Kept;
+use mt_feeds::FedJob;
 use mt_resolve::{job_folder, job_stor};
 use mt_sched::Sched;
 use mt_tree::Tree;
@@ -169,10 +169,10 @@ fn make_folders<B: Drop>(
 // Adds a job behind the others, with its queue.
 fn add_kept<B: Drop>(
     alloc: Global,
-    jobs: &mut Vec<Kept<B>>,
+    jobs: &mut Vec<FedJob<B>>,
     sched: &mut Sched,
     running: &mut BTreeSet<u64>,
-    kept: Kept<B>,
+    kept: FedJob<B>,
 ) -> Result<(), AllocError>
     requires above { IsAbove kept.job.number sched.old }
     ensures jobs { OnOk result (jobs.new.items ≡ jobs.old.items ++ kept ∷ []) }
@@ -209,7 +209,7 @@ impl<B: Duplicate> Jobs<B> {
         ensures { OnOk result (state_of position tree.new self.new ≡ change (state_of position tree.old self.old) (NewJob document moment)) }
     {
         let number = position * NUMBERS_A_COMMAND;
-        let kept = Kept::of(alloc, new_job(alloc, tree, number, document, moment)?)?;
+        let kept = FedJob::of(alloc, new_job(alloc, tree, number, document, moment)?)?;
         make_folders(alloc, tree, number, moment)?;
         match add_kept(
             alloc,

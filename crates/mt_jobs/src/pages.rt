@@ -21,7 +21,7 @@ fn numbers_from(
 
 impl<B> Jobs<B> {
     ghost use Rattle.std.specs.Prelude.{◌≡◌, IfOk, length, map};
-    ghost use Rattle.mt_jobs.specs.Kept.{numbers_of};
+    ghost use Rattle.mt_jobs.specs.JobList.{numbers_of};
     ghost use Rattle.mt_jobs.specs.Pages.{page_of, standing};
 
     // The numbers of the jobs that stand so.

@@ -2,16 +2,16 @@
 ghost use Rattle.std.specs.Prelude.{◌≡◌, true, IfOk};
 ghost use Rattle.std.specs.List.{sum_by};
 ghost use Rattle.mt_model.specs.Tasks.{is_ready};
-ghost use Rattle.mt_feeds.specs.Kept.{IsKept};
+ghost use Rattle.mt_feeds.specs.FedJob.{IsKept};
 ghost use Rattle.mt_feeds.specs.Reading.{task_items};
 
 use crate::jobs::Jobs;
-use mt_feeds::Kept;
+use mt_feeds::FedJob;
 use mt_types::{Body, Item, Task};
 use std::alloc::AllocError;
 
 // How many bytes a ready task of a job reads; a sum that isn't below 2^64 counts as want of memory.
-fn len_of(kept: &Kept<Body>, phase: u32, place: u64) -> Result<u64, AllocError>
+fn len_of(kept: &FedJob<Body>, phase: u32, place: u64) -> Result<u64, AllocError>
     requires kept { IsKept kept.now }
     requires ready { is_ready kept.now.job phase place ≡ true }
     ensures { IfOk result (λ n. n ≡ sum_by (λ i. i.body.len) (task_items phase place kept.now.job)) }

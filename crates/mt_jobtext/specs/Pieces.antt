@@ -11,7 +11,7 @@ use Rattle.mt_types.specs.declared.job.Job.{Job}
 use Rattle.mt_types.specs.declared.job.Outcome.{Outcome}
 use Rattle.mt_types.specs.declared.job.Outcome.TheVariants.{Good, Bad}
 use Rattle.mt_types.specs.declared.job.TraceEntry.{TraceEntry}
-use Rattle.mt_feeds.specs.Kept.{AreFeeds}
+use Rattle.mt_feeds.specs.FedJob.{AreFeeds}
 use Rattle.mt_model.specs.Feed.{feed, items_of}
 use Rattle.mt_model.specs.Finished.{outputs_of}
 use Rattle.mt_types.specs.declared.live.LiveText.{LiveText}

@@ -2,16 +2,16 @@
 ghost use Rattle.std.specs.Prelude.{◌≡◌, option_copied, option_map};
 ghost use Rattle.std.specs.List.{slice_get};
 ghost use Rattle.mt_model.specs.Feed as model;
-ghost use Rattle.mt_feeds.specs.Kept.{AreFeeds};
+ghost use Rattle.mt_feeds.specs.FedJob.{AreFeeds};
 ghost use Rattle.mt_jobtext.specs.JobTexts as words;
 ghost use Rattle.mt_jobtext.specs.Pieces as pieces;
 
-use mt_feeds::Kept;
+use mt_feeds::FedJob;
 use mt_path::Path;
 use mt_types::{Item, Job, Outcome, PhaseKind, TraceEntry};
 
 /// The name of the object that a failed map task read, by look-ups.
-pub(crate) fn failed_path<'a, B>(kept: &'a Kept<B>, entry: &TraceEntry<B>) -> Option<&'a Path>
+pub(crate) fn failed_path<'a, B>(kept: &'a FedJob<B>, entry: &TraceEntry<B>) -> Option<&'a Path>
     requires { AreFeeds kept.now.job kept.now.feeds.items }
     ensures { option_copied result ≡ pieces.failed_path kept.now.job entry.now }
 {
@@ -22,7 +22,7 @@ pub(crate) fn failed_path<'a, B>(kept: &'a Kept<B>, entry: &TraceEntry<B>) -> Op
 }
 
 /// The name of the object that the task at a place of a phase reads, if it is a map task: by look-ups.
-pub(crate) fn path_of_task<B>(kept: &Kept<B>, phase: u32, place: u64) -> Option<&Path>
+pub(crate) fn path_of_task<B>(kept: &FedJob<B>, phase: u32, place: u64) -> Option<&Path>
     requires { AreFeeds kept.now.job kept.now.feeds.items }
     ensures { option_copied result ≡ pieces.path_of_task kept.now.job phase place }
 {

@@ -8,7 +8,7 @@ use crate::whole::{piece_count, shown};
 use crate::window::Window;
 use mt_base::LAST_MOMENT;
 use mt_edge::{ReadStep, Source};
-use mt_feeds::Kept;
+use mt_feeds::FedJob;
 use mt_types::LiveText;
 use std::alloc::{AllocError, Global};
 use std::marker::Model;
@@ -42,7 +42,7 @@ impl<'a, B> Model for Lines<'a, B> {
 
 impl<'a, B> Lines<'a, B> {
     ghost use Rattle.std.specs.Prelude.{◌≡◌, ◌≤◌, IfOk, length};
-    ghost use Rattle.mt_feeds.specs.Kept.{AreFeeds};
+    ghost use Rattle.mt_feeds.specs.FedJob.{AreFeeds};
     ghost use Rattle.mt_model.specs.JobSteps.{done_at};
     ghost use Rattle.mt_jobtext.specs.Ended.{ended_as};
     ghost use Rattle.mt_jobtext.specs.JobTexts.{text_of};
@@ -52,7 +52,7 @@ impl<'a, B> Lines<'a, B> {
     pub fn live(
         alloc: Global,
         login: &'a str,
-        kept: &'a Kept<B>,
+        kept: &'a FedJob<B>,
         text: LiveText,
     ) -> Result<Lines<'a, B>, AllocError>
         requires showable { IsShowable kept.now.job }
@@ -70,7 +70,7 @@ impl<'a, B> Lines<'a, B> {
     pub fn closed(
         alloc: Global,
         login: &'a str,
-        kept: &'a Kept<B>,
+        kept: &'a FedJob<B>,
         text: LiveText,
         cancelled: bool,
         moment: u64,
@@ -91,7 +91,7 @@ impl<'a, B> Lines<'a, B> {
     fn of(
         alloc: Global,
         login: &'a str,
-        kept: &'a Kept<B>,
+        kept: &'a FedJob<B>,
         ending: Ending,
         text: LiveText,
     ) -> Result<Lines<'a, B>, AllocError>

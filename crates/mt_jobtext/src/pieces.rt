@@ -1,7 +1,7 @@
 //! The pieces of the texts, each made of one value that the job holds.
 ghost use Rattle.std.specs.Prelude.{◌≡◌, ◌<◌, [], length, option_map, slice_index_or};
 ghost use Rattle.serde_json.specs.Written.{compact_text};
-ghost use Rattle.mt_feeds.specs.Kept.{AreFeeds};
+ghost use Rattle.mt_feeds.specs.FedJob.{AreFeeds};
 ghost use Rattle.mt_jobtext.specs.JobTexts.{failed_error, failed_name};
 ghost use Rattle.mt_jobtext.specs.Pieces.{IsShown, adding_tasks, first_pieces, line_of, output_lines, piece_at, pieces_of, task_piece};
 ghost use Rattle.mt_jobtext.specs.Windows.{Puts};
@@ -13,7 +13,7 @@ use crate::stats::Stats;
 use crate::status::{Ending, put_status, status_count};
 use crate::tasks::put_task_line;
 use crate::window::Window;
-use mt_feeds::Kept;
+use mt_feeds::FedJob;
 use mt_types::{LiveText, Outcome, TraceEntry};
 
 /// What a text is made of.
@@ -22,7 +22,7 @@ pub(crate) struct Shown<'a, B> {
     /// The account's name.
     pub(crate) login: &'a str,
     /// The job, whose own end is not looked at, with what is kept beside it.
-    pub(crate) kept: &'a Kept<B>,
+    pub(crate) kept: &'a FedJob<B>,
     /// How it ended.
     pub(crate) ending: Ending,
     /// Its numbers.
@@ -114,7 +114,7 @@ fn put_outputs<B>(window: &mut Window, login: &str, phases: usize, entry: &Trace
 }
 
 // Adds a line with what a failed map task read.
-fn put_failed_name<B>(window: &mut Window, login: &str, kept: &Kept<B>, entry: &TraceEntry<B>)
+fn put_failed_name<B>(window: &mut Window, login: &str, kept: &FedJob<B>, entry: &TraceEntry<B>)
     requires { AreFeeds kept.now.job kept.now.feeds.items }
     ensures { Puts (line_of (failed_name login.now kept.now.job entry.now)) window.old window.new }
 {
@@ -124,7 +124,7 @@ fn put_failed_name<B>(window: &mut Window, login: &str, kept: &Kept<B>, entry: &
 }
 
 // Adds a line that tells why a task failed.
-fn put_error<B>(window: &mut Window, login: &str, kept: &Kept<B>, entry: &TraceEntry<B>)
+fn put_error<B>(window: &mut Window, login: &str, kept: &FedJob<B>, entry: &TraceEntry<B>)
     requires { AreFeeds kept.now.job kept.now.feeds.items }
     ensures { Puts (line_of (option_map compact_text (failed_error login.now kept.now.job entry.now))) window.old window.new }
 {

@@ -1,6 +1,6 @@
 //! How long a text of a job is.
 ghost use Rattle.std.specs.Prelude.{◌≡◌, ◌≤◌, IfOk, length};
-ghost use Rattle.mt_feeds.specs.Kept.{AreFeeds};
+ghost use Rattle.mt_feeds.specs.FedJob.{AreFeeds};
 ghost use Rattle.mt_model.specs.JobSteps.{done_at};
 ghost use Rattle.mt_jobtext.specs.Ended.{ended_as};
 ghost use Rattle.mt_jobtext.specs.JobTexts.{text_of};
@@ -14,7 +14,7 @@ use crate::status::Ending;
 use crate::whole::{piece_count, shown};
 use crate::window::Window;
 use mt_base::LAST_MOMENT;
-use mt_feeds::Kept;
+use mt_feeds::FedJob;
 use mt_types::LiveText;
 use std::alloc::{AllocError, Global};
 
@@ -23,7 +23,7 @@ use std::alloc::{AllocError, Global};
 pub fn text_len<B>(
     alloc: Global,
     login: &str,
-    kept: &Kept<B>,
+    kept: &FedJob<B>,
     text: LiveText,
 ) -> Result<u64, AllocError>
     requires showable { IsShowable kept.now.job }
@@ -42,7 +42,7 @@ pub fn text_len<B>(
 pub fn closed_len<B>(
     alloc: Global,
     login: &str,
-    kept: &Kept<B>,
+    kept: &FedJob<B>,
     text: LiveText,
     cancelled: bool,
     moment: u64,
@@ -63,7 +63,7 @@ pub fn closed_len<B>(
 fn ended_len<B>(
     alloc: Global,
     login: &str,
-    kept: &Kept<B>,
+    kept: &FedJob<B>,
     ending: Ending,
     text: LiveText,
 ) -> Result<u64, AllocError>

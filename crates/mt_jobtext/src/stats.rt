@@ -1,6 +1,6 @@
 //! How much there is of a job.
 ghost use Rattle.std.specs.Prelude.{◌≡◌, ℕ, ◌+◌, List, IfOk, length};
-ghost use Rattle.mt_feeds.specs.Kept.{AreFeeds};
+ghost use Rattle.mt_feeds.specs.FedJob.{AreFeeds};
 ghost use Rattle.mt_model.specs.Finished.{outputs_of};
 ghost use Rattle.mt_jobtext.specs.JobTexts as words;
 ghost use Rattle.mt_jobtext.specs.JobTexts.{errors_of, names_failed};
@@ -8,7 +8,7 @@ ghost use Rattle.mt_jobtext.specs.Pieces as pieces;
 ghost use Rattle.mt_jobtext.specs.Pieces.{HasStats, NeedsStats};
 
 use crate::found::{failed_path, outputs_in};
-use mt_feeds::Kept;
+use mt_feeds::FedJob;
 use mt_types::{Job, LiveText, Outcome, TraceEntry};
 use std::alloc::AllocError;
 
@@ -27,7 +27,7 @@ pub(crate) struct Stats {
 
 /// How many lines a text of a job has; of the status, 1. It takes no memory: the error says that the number is not below 2 ^ 64,
 /// which no memory holds.
-pub fn line_count<B>(kept: &Kept<B>, text: LiveText) -> Result<u64, AllocError>
+pub fn line_count<B>(kept: &FedJob<B>, text: LiveText) -> Result<u64, AllocError>
     requires { AreFeeds kept.now.job kept.now.feeds.items }
     ensures { IfOk result (λ n. (login : List ℕ) → n ≡ words.line_count login kept.now.job text) }
 {
@@ -85,7 +85,7 @@ fn error_count<B>(job: &Job<B>) -> Result<u64, AllocError>
 }
 
 // The lines of names of what went wrong.
-fn name_count<B>(kept: &Kept<B>) -> Result<u64, AllocError>
+fn name_count<B>(kept: &FedJob<B>) -> Result<u64, AllocError>
     requires { AreFeeds kept.now.job kept.now.feeds.items }
     ensures { IfOk result (λ n. (login : List ℕ) → n ≡ length (names_failed login kept.now.job)) }
 {

@@ -1,6 +1,6 @@
 //! A whole text of a job.
 ghost use Rattle.std.specs.Prelude.{◌≡◌, ◌<◌, ◌≤◌, IfOk, length};
-ghost use Rattle.mt_feeds.specs.Kept.{AreFeeds};
+ghost use Rattle.mt_feeds.specs.FedJob.{AreFeeds};
 ghost use Rattle.mt_model.specs.JobSteps.{done_at};
 ghost use Rattle.mt_jobtext.specs.Ended.{ended_as};
 ghost use Rattle.mt_jobtext.specs.JobTexts.{text_of};
@@ -14,7 +14,7 @@ use crate::stats::{Stats, needed_stats, sum};
 use crate::status::Ending;
 use crate::window::Window;
 use mt_base::{Bytes, LAST_MOMENT};
-use mt_feeds::Kept;
+use mt_feeds::FedJob;
 use mt_types::{Job, LiveText};
 use std::alloc::{AllocError, Global};
 
@@ -22,7 +22,7 @@ use std::alloc::{AllocError, Global};
 pub fn live_text<B>(
     alloc: Global,
     login: &str,
-    kept: &Kept<B>,
+    kept: &FedJob<B>,
     text: LiveText,
 ) -> Result<Bytes, AllocError>
     requires showable { IsShowable kept.now.job }
@@ -40,7 +40,7 @@ pub fn live_text<B>(
 pub fn closed_text<B>(
     alloc: Global,
     login: &str,
-    kept: &Kept<B>,
+    kept: &FedJob<B>,
     text: LiveText,
     cancelled: bool,
     moment: u64,
@@ -61,7 +61,7 @@ pub fn closed_text<B>(
 fn written<B>(
     alloc: Global,
     login: &str,
-    kept: &Kept<B>,
+    kept: &FedJob<B>,
     ending: Ending,
     text: LiveText,
 ) -> Result<Bytes, AllocError>
@@ -79,7 +79,7 @@ fn written<B>(
 /// What a text is made of.
 pub(crate) fn shown<'a, B>(
     login: &'a str,
-    kept: &'a Kept<B>,
+    kept: &'a FedJob<B>,
     ending: Ending,
     stats: Stats,
     text: LiveText,

@@ -2,7 +2,7 @@
 use Rattle.std.proofs.Common.{ℕ, ◌+◌, ◌<◌, ◌==◌, Bool, true, false, not, cond, List, [], ◌∷◌, ◌++◌, Result, Ok, Err, sym, subst, arith}
 use Rattle.std.specs.Prelude.{◌≡◌, OnErr, OnOk}
 use Rattle.std.proofs.lemmas.List.Elements.{All-filter, All-map, All-push, All-weaker}
-use Rattle.mt_sched.specs.Kept.{IsAbove}
+use Rattle.mt_sched.specs.Plans.{IsAbove}
 use Rattle.mt_sched.specs.Plan.{Plan}
 use Rattle.mt_sched.specs.PlanSteps.{with_plan, without_plan}
 

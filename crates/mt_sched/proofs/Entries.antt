@@ -9,7 +9,7 @@ use Rattle.std.specs.Ordering.{nat_cmp, is_eq, match_ordering}
 use Rattle.std.specs.declared.cmp.Ordering.TheVariants.{Less}
 use Rattle.std.proofs.lemmas.List.Elements.{All-head, All-tail}
 use Rattle.std.proofs.lemmas.Map.Keys.{sorted_head, sorted_tail}
-use Rattle.mt_sched.specs.Kept.{IsAbove, plan_at}
+use Rattle.mt_sched.specs.Plans.{IsAbove, plan_at}
 use Rattle.mt_sched.specs.Plan.{Plan}
 use Rattle.mt_sched.specs.PlanSteps.{with_plan, without_plan}
 use Rattle.mt_sched.proofs.Orders.{greater, same_test}

@@ -6,7 +6,7 @@ use Rattle.std.specs.Option.{option_copied, option_or}
 use Rattle.std.specs.Result.{OnErr, OnOk}
 use Rattle.std.proofs.lemmas.List.Folds.{find-append}
 use Rattle.mt_types.specs.declared.job.Task.{Task}
-use Rattle.mt_sched.specs.Kept.{ready_at}
+use Rattle.mt_sched.specs.Plans.{ready_at}
 use Rattle.mt_sched.specs.Plan.{Plan, first_but, has_task}
 use Rattle.mt_sched.proofs.Phases.{none_first, some_first}
 use Rattle.mt_sched.proofs.Walks.{first_number}

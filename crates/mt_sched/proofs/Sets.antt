@@ -4,7 +4,7 @@ use Rattle.std.specs.List.Sorted.{IsStrictlySortedBy}
 use Rattle.std.specs.BTreeMap.{is_at}
 use Rattle.std.specs.Map.{keys_of}
 use Rattle.std.specs.Ordering.{nat_cmp}
-use Rattle.mt_sched.specs.Kept.{AreOf, IsSched, has_number, passes, plan_at}
+use Rattle.mt_sched.specs.Plans.{AreOf, IsSched, has_number, passes, plan_at}
 use Rattle.mt_sched.specs.Plan.{Plan, has_ready_in, waits_in}
 use Rattle.mt_sched.proofs.Walks.{same_number}
 

@@ -8,7 +8,7 @@ use Rattle.mt_types.specs.declared.document.Phase.{Phase}
 use Rattle.mt_types.specs.declared.document.PhaseKind.{PhaseKind}
 use Rattle.mt_types.specs.declared.document.PhaseKind.TheVariants.{Map, Reduce}
 use Rattle.mt_model.proofs.Maps.{map-append}
-use Rattle.mt_sched.specs.Kept.{IsAbove, plan_at}
+use Rattle.mt_sched.specs.Plans.{IsAbove, plan_at}
 use Rattle.mt_sched.specs.Plan.{AreNumbered, Plan, has_ready_in, has_ready_phase, waits_in}
 use Rattle.mt_sched.specs.PlanOfJob.{kinds_of}
 use Rattle.mt_sched.specs.PlanSteps.{first_phase, first_plan}

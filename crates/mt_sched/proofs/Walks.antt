@@ -12,7 +12,7 @@ use Rattle.std.proofs.lemmas.Bool.{cases_lt, eqb-true}
 use Rattle.std.proofs.lemmas.Cmp.{nat_cmp_total}
 use Rattle.std.proofs.lemmas.Map.Keys.{sorted_head, sorted_tail}
 use Rattle.mt_model.proofs.Entries.{all_above}
-use Rattle.mt_sched.specs.Kept.{AreOf, has_number, passes, plan_at, ready_at, ready_if}
+use Rattle.mt_sched.specs.Plans.{AreOf, has_number, passes, plan_at, ready_at, ready_if}
 use Rattle.mt_sched.specs.Plan.{PhasePlan, Plan, all_ready, first_waiting, has_ready_in, has_ready_phase, is_none_left, may_begin_in, ready_in, ready_of_phase, task_at, waits_in}
 use Rattle.mt_sched.proofs.Orders.{same_test}
 

@@ -2,4 +2,4 @@ pub mod Plan
 pub mod PlanSteps
 pub mod PlanOfJob
 pub mod Laws
-pub mod Kept
+pub mod Plans

@@ -3,7 +3,7 @@ ghost use Rattle.std.specs.Prelude.{◌≡◌, OnOk, OnErr};
 ghost use Rattle.std.specs.List.{flat_map};
 ghost use Rattle.std.specs.List.Sorted.{IsStrictlySortedBy};
 ghost use Rattle.std.specs.Ordering.{nat_cmp};
-ghost use Rattle.mt_sched.specs.Kept.{HasAlso, HasSame, HasWhere, ready_at};
+ghost use Rattle.mt_sched.specs.Plans.{HasAlso, HasSame, HasWhere, ready_at};
 ghost use Rattle.mt_sched.specs.Plan.{first_but};
 
 use crate::queue::Queue;
@@ -23,7 +23,7 @@ pub struct Sched {
 impl Model for Sched {
     ghost use Rattle.std.specs.Prelude.{ℕ, List};
     ghost use Rattle.mt_sched.specs.Plan.{Plan};
-    ghost use Rattle.mt_sched.specs.Kept.{IsSched};
+    ghost use Rattle.mt_sched.specs.Plans.{IsSched};
 
     ghost Value = { List (ℕ × Plan) };
 
@@ -91,7 +91,7 @@ fn first_of_jobs(queues: &BTreeMap<u64, Queue>, jobs: &BTreeSet<u64>, skip: &[Ta
 impl Sched {
     ghost use Rattle.std.specs.Prelude.{◌≡◌, [], ◌∷◌, ◌++◌, OnOk, OnErr};
     ghost use Rattle.std.specs.Option.{option_map};
-    ghost use Rattle.mt_sched.specs.Kept.{IsAbove, plan_at};
+    ghost use Rattle.mt_sched.specs.Plans.{IsAbove, plan_at};
     ghost use Rattle.mt_sched.specs.Plan.{all_ready, first_but, first_waiting};
     ghost use Rattle.mt_sched.specs.PlanOfJob.{kinds_of};
     ghost use Rattle.mt_sched.specs.PlanSteps.{committed_in, ended_plan, first_plan, grown, with_plan, without_plan};

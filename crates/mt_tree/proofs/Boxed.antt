@@ -7,7 +7,7 @@ use Rattle.std.specs.Option.{option_map}
 use Rattle.std.specs.declared.alloc.Global.{Global}
 use Rattle.std.specs.declared.boxed.Box.{Box}
 use Rattle.std.specs.declared.vec.Vec.{Vec}
-use Rattle.mt_tree.specs.Kept.{changed, is_key}
+use Rattle.mt_tree.specs.AreaRows.{changed, is_key}
 use Rattle.mt_path.specs.Keys.{IsKey, parts_of}
 use Rattle.mt_path.proofs.Keys.{bytes_cmp}
 use Rattle.mt_tree.specs.Keys.{AreKeys, opened}

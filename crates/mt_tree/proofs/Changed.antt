@@ -2,7 +2,7 @@
 use Rattle.std.proofs.Common.{◌≡◌, Bool, true, false, cond, List, [], ◌∷◌, Some, None, refl, ap, ◌∙◌}
 use Rattle.std.specs.Map.{lookup, set_value}
 use Rattle.std.specs.Option.{option_map}
-use Rattle.mt_tree.specs.Kept.{changed}
+use Rattle.mt_tree.specs.AreaRows.{changed}
 
 module _ {K X : Type 0} (test : K → Bool) (f : X → X) where
   -- what is written behind the value that a look-up finds

@@ -8,7 +8,7 @@ use Rattle.mt_path.specs.declared.area.Area.TheVariants.{Stor, Public, Jobs}
 use Rattle.mt_types.specs.declared.object.Entry.{Entry}
 use Rattle.mt_model.specs.Rows.{is_path, is_above, is_child, children}
 use Rattle.mt_tree.specs.declared.kept.KeptRow.{KeptRow}
-use Rattle.mt_tree.specs.Kept.{in_area, joined, parts_above, rows_of}
+use Rattle.mt_tree.specs.AreaRows.{in_area, joined, parts_above, rows_of}
 use Rattle.mt_path.specs.Keys.{Parts}
 use Rattle.mt_tree.proofs.Appended.{filter-append, filter-none}
 use Rattle.mt_tree.proofs.Joined.{Entries, path_in, part, all_in}

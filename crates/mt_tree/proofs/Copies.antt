@@ -13,7 +13,7 @@ use Rattle.mt_path.specs.PathOrder.{path_cmp}
 use Rattle.mt_path.specs.declared.area.Area.{Area}
 use Rattle.mt_path.specs.declared.area.Area.TheVariants.{Stor, Public, Jobs}
 use Rattle.mt_tree.specs.declared.kept.KeptRow.{KeptRow}
-use Rattle.mt_tree.specs.Kept.{in_area, joined, parts_cmp, rows_of}
+use Rattle.mt_tree.specs.AreaRows.{in_area, joined, parts_cmp, rows_of}
 use Rattle.mt_path.specs.Keys.{Parts}
 use Rattle.mt_tree.specs.Walk.{rows_after}
 use Rattle.mt_tree.proofs.Appended.{filter-append}

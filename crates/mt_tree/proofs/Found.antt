@@ -8,7 +8,7 @@ use Rattle.mt_path.specs.declared.area.Area.{Area}
 use Rattle.mt_model.specs.Rows.{Rows, is_path, at, above_refusal, children, directory_refusal, is_directory, parent_refusal}
 use Rattle.mt_model.proofs.Children.{above, parent-above, no_children}
 use Rattle.mt_tree.specs.declared.kept.KeptRow.{KeptRow}
-use Rattle.mt_tree.specs.Kept.{IsKept, parts_above, rows_of}
+use Rattle.mt_tree.specs.AreaRows.{IsKept, parts_above, rows_of}
 use Rattle.mt_path.specs.Keys.{Parts}
 use Rattle.mt_tree.proofs.Grown.{number-is}
 use Rattle.mt_tree.proofs.Joined.{path_in}

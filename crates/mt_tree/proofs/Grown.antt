@@ -12,7 +12,7 @@ use Rattle.mt_types.specs.declared.object.Entry.{Entry}
 use Rattle.mt_model.specs.Rows.{is_path, is_root, at, with_row, without_row, is_directory, children, IsTree}
 use Rattle.mt_model.proofs.RowLaws.{IsTree-with_row, IsTree-without_row, childless}
 use Rattle.mt_tree.specs.declared.kept.KeptRow.{KeptRow}
-use Rattle.mt_tree.specs.Kept.{changed, raised, lowered, childless as without_children, rows_of, numbers_of, AreCounts, IsKept}
+use Rattle.mt_tree.specs.AreaRows.{changed, raised, lowered, childless as without_children, rows_of, numbers_of, AreCounts, IsKept}
 use Rattle.mt_tree.proofs.Keeps.{counts-with_row, counts-without_row}
 use Rattle.mt_tree.proofs.Valued.{keys-valued, lookup-valued, remove-valued, insert-valued, changed-valued, same-valued}
 

@@ -12,7 +12,7 @@ use Rattle.std.specs.Ordering.{nat_cmp, is_le, ordering_then, ordering_reverse}
 use Rattle.std.specs.declared.cmp.Ordering.{Ordering}
 use Rattle.std.specs.declared.cmp.Ordering.TheVariants.{Less, Equal, Greater}
 use Rattle.std.proofs.lemmas.Cmp.{tied_itself}
-use Rattle.mt_tree.specs.Kept.{parts_cmp}
+use Rattle.mt_tree.specs.AreaRows.{parts_cmp}
 use Rattle.mt_path.specs.Keys.{Parts}
 use Rattle.mt_tree.specs.Walk.{begins, below_by_one, is_from_name, is_one_below, last_of}
 

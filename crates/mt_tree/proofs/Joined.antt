@@ -11,7 +11,7 @@ use Rattle.mt_path.specs.PathOrder.{path_cmp}
 use Rattle.mt_path.specs.declared.area.Area.{Area}
 use Rattle.mt_path.specs.declared.area.Area.TheVariants.{Stor, Public, Jobs}
 use Rattle.mt_model.specs.Rows.{is_path}
-use Rattle.mt_tree.specs.Kept.{parts_cmp, is_key, in_area, joined, changed}
+use Rattle.mt_tree.specs.AreaRows.{parts_cmp, is_key, in_area, joined, changed}
 use Rattle.mt_path.specs.Keys.{Parts}
 use Rattle.mt_tree.proofs.Appended.{all_append, lookup-back, lookup-front, remove-back, remove-front, changed-back, changed-front, insert-back, insert-front}
 

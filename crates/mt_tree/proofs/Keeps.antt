@@ -15,7 +15,7 @@ use Rattle.mt_model.specs.Rows.{Rows, is_path, is_child, at, with_row, without_r
 use Rattle.mt_model.proofs.Entries.{lookup-insert_entry}
 use Rattle.mt_model.proofs.RowLaws.{is_path-exact, is_path-self, parent-is_child, is_child-parent}
 use Rattle.mt_model.proofs.Children.{no_own_child, no_children}
-use Rattle.mt_tree.specs.Kept.{changed, AreCounts}
+use Rattle.mt_tree.specs.AreaRows.{changed, AreCounts}
 use Rattle.mt_tree.proofs.Changed.{lookup-changed}
 use Rattle.mt_tree.proofs.Counts.{one, passing-insert, passing-remove}
 

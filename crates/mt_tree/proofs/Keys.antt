@@ -14,7 +14,7 @@ use Rattle.std.specs.declared.cmp.Ordering.TheVariants.{Less, Equal, Greater}
 use Rattle.std.proofs.lemmas.List.{length-map}
 use Rattle.mt_path.specs.Keys.{IsClear, IsKey, Parts, key_bytes, parts_of}
 use Rattle.mt_path.proofs.Keys.{bytes_cmp, key_order}
-use Rattle.mt_tree.specs.Kept.{changed, is_key, parts_cmp}
+use Rattle.mt_tree.specs.AreaRows.{changed, is_key, parts_cmp}
 use Rattle.mt_tree.specs.Keys.{AreKeys, opened}
 
 abbrev pub Stored : Type 0 → Type 0

@@ -10,7 +10,7 @@ use Rattle.mt_model.specs.Listing.{is_from, listing}
 use Rattle.mt_tree.specs.declared.areas.Areas.{Areas}
 use Rattle.mt_tree.specs.declared.kept.KeptRow.{KeptRow}
 use Rattle.mt_tree.specs.Areas.{all_of, map_of}
-use Rattle.mt_tree.specs.Kept.{in_area, rows_of}
+use Rattle.mt_tree.specs.AreaRows.{in_area, rows_of}
 use Rattle.mt_path.specs.Keys.{Parts}
 use Rattle.mt_tree.specs.Walk.{lent_row, listed_row, page_of}
 use Rattle.mt_tree.proofs.ChildrenIn.{children-joined}

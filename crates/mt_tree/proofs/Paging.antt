@@ -13,7 +13,7 @@ use Rattle.mt_types.specs.declared.object.Entry.{Entry}
 use Rattle.mt_tree.specs.declared.kept.KeptRow.{KeptRow}
 use Rattle.mt_tree.specs.declared.listing.Listed.{Listed}
 use Rattle.mt_tree.specs.declared.listing.Place.TheVariants.{Outside, Child, Below}
-use Rattle.mt_tree.specs.Kept.{parts_cmp}
+use Rattle.mt_tree.specs.AreaRows.{parts_cmp}
 use Rattle.mt_path.specs.Keys.{IsClear, IsKey, Parts, key_bytes, parts_of}
 use Rattle.mt_path.proofs.Keys.{bytes_cmp, clear-push, key-push}
 use Rattle.mt_tree.specs.Keys.{AreKeys, opened}

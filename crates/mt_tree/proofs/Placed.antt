@@ -12,7 +12,7 @@ use Rattle.mt_model.specs.Rows.{is_path, at, with_row, without_row, is_directory
 use Rattle.mt_model.proofs.RowLaws.{remove-allowed}
 use Rattle.mt_model.proofs.Children.{above, parent-above, some-not_root}
 use Rattle.mt_tree.specs.declared.kept.KeptRow.{KeptRow}
-use Rattle.mt_tree.specs.Kept.{changed, childless as without_children, is_key, joined, lowered, made_room, parts_above, parts_cmp, raised, rows_of, has_directory, IsKept}
+use Rattle.mt_tree.specs.AreaRows.{changed, childless as without_children, is_key, joined, lowered, made_room, parts_above, parts_cmp, raised, rows_of, has_directory, IsKept}
 use Rattle.mt_path.specs.Keys.{Parts}
 use Rattle.std.specs.declared.alloc.AllocError.{AllocError}
 use Rattle.mt_tree.proofs.ChildrenIn.{children-few}

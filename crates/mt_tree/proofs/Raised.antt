@@ -12,7 +12,7 @@ use Rattle.std.proofs.lemmas.Cmp.{tied_itself}
 use Rattle.mt_path.specs.Keys.{Parts}
 use Rattle.mt_model.proofs.Entries.{lookup-insert_entry}
 use Rattle.mt_tree.specs.declared.kept.KeptRow.{KeptRow}
-use Rattle.mt_tree.specs.Kept.{changed, is_key, made_room, parts_above, parts_cmp, raised}
+use Rattle.mt_tree.specs.AreaRows.{changed, is_key, made_room, parts_above, parts_cmp, raised}
 
 parts_total : IsTotalOrder parts_cmp
 parts_total = lists_total nat_list_cmp_total

@@ -10,7 +10,7 @@ use Rattle.mt_types.specs.declared.object.Entry.TheVariants.{Directory}
 use Rattle.mt_model.specs.Rows.{is_path}
 use Rattle.mt_model.proofs.RowLaws.{IsTree-first_rows}
 use Rattle.mt_tree.specs.declared.kept.KeptRow.{KeptRow}
-use Rattle.mt_tree.specs.Kept.{AreCounts, IsKept, IsRootAlone, childless, joined, numbers_of, rows_of}
+use Rattle.mt_tree.specs.AreaRows.{AreCounts, IsKept, IsRootAlone, childless, joined, numbers_of, rows_of}
 use Rattle.mt_tree.proofs.Joined.{Entries, path_in}
 
 root_path : (area : Area) → IsPath (root_of area)

@@ -11,7 +11,7 @@ use Rattle.std.specs.declared.cmp.Ordering.TheVariants.{Less, Equal, Greater}
 use Rattle.mt_path.specs.Keys.{Parts}
 use Rattle.mt_model.specs.Rows.{is_directory}
 use Rattle.mt_tree.specs.declared.kept.KeptRow.{KeptRow}
-use Rattle.mt_tree.specs.Kept.{changed, has_directory, is_key, made_room, parts_above, parts_cmp, raised}
+use Rattle.mt_tree.specs.AreaRows.{changed, has_directory, is_key, made_room, parts_above, parts_cmp, raised}
 use Rattle.mt_tree.proofs.Raised.{put-counted}
 
 -- a row that was put in the place of another, which takes its place again

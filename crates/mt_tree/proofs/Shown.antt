@@ -15,7 +15,7 @@ use Rattle.mt_model.specs.Rows.{Rows, children, is_child, row_of}
 use Rattle.mt_model.proofs.Children.{above-parent, parent-above, length-above}
 use Rattle.mt_model.proofs.RowLaws.{parent-is_child, is_child-parent}
 use Rattle.mt_tree.specs.declared.kept.KeptRow.{KeptRow}
-use Rattle.mt_tree.specs.Kept.{in_area, joined, rows_of}
+use Rattle.mt_tree.specs.AreaRows.{in_area, joined, rows_of}
 use Rattle.mt_path.specs.Keys.{Parts}
 use Rattle.mt_tree.specs.Walk.{below_by_one, is_from_name, is_one_below, last_of, lent_row, listed_row, page_of, shown}
 use Rattle.mt_tree.proofs.Intervals.{and_first, and_second, both_true, parts_decide}

@@ -10,7 +10,7 @@ use Rattle.std.specs.declared.cmp.Ordering.TheVariants.{Less, Equal, Greater}
 use Rattle.std.specs.declared.cmp.Ordering.{Ordering}
 use Rattle.std.proofs.lemmas.Bool.Decides.{nat_tests}
 use Rattle.std.proofs.lemmas.Cmp.{ranked}
-use Rattle.mt_tree.specs.Kept.{parts_cmp}
+use Rattle.mt_tree.specs.AreaRows.{parts_cmp}
 use Rattle.mt_path.specs.Keys.{IsClear, Parts}
 use Rattle.mt_path.proofs.Keys.{zero_below}
 use Rattle.mt_tree.specs.Walk.{below_by_one, cleared, is_from_name, is_one_below, last_of, next_name}

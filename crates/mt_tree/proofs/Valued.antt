@@ -6,7 +6,7 @@ use Rattle.std.specs.Option.{option_map}
 use Rattle.std.specs.Ordering.{match_ordering}
 use Rattle.std.specs.declared.cmp.Ordering.{Ordering}
 use Rattle.std.specs.declared.cmp.Ordering.TheVariants.{Less, Equal, Greater}
-use Rattle.mt_tree.specs.Kept.{changed}
+use Rattle.mt_tree.specs.AreaRows.{changed}
 
 module _ {K X Y : Type 0} (h : X → Y) where
   abbrev pub valued : List (K × X) → List (K × Y)

@@ -9,7 +9,7 @@ use Rattle.std.specs.Cmp.{unsigned_Decides}
 use Rattle.std.specs.Map.{keys_of}
 use Rattle.std.specs.Ordering.{is_le}
 use Rattle.std.specs.declared.cmp.Ordering.TheVariants.{Less}
-use Rattle.mt_tree.specs.Kept.{parts_cmp}
+use Rattle.mt_tree.specs.AreaRows.{parts_cmp}
 use Rattle.mt_path.specs.Keys.{IsClear, Parts}
 use Rattle.mt_tree.specs.Walk.{begins, below_by_one, is_one_below, next_name}
 use Rattle.mt_tree.proofs.Intervals.{parts_decide, and_second, both_true, below_cmp, split_at, from_parts, none_after}

@@ -6,7 +6,7 @@ use Rattle.mt_path.specs.declared.area.Area.TheVariants.{Stor, Public, Jobs}
 use Rattle.mt_model.specs.Rows.{Rows}
 use Rattle.mt_tree.specs.declared.areas.Areas.{Areas}
 use Rattle.mt_tree.specs.declared.kept.KeptRow.{KeptRow}
-use Rattle.mt_tree.specs.Kept.{joined, rows_of}
+use Rattle.mt_tree.specs.AreaRows.{joined, rows_of}
 use Rattle.mt_path.specs.Keys.{Parts}
 
 module _ {B : Type 0} where

@@ -1,6 +1,6 @@
 pub mod Answer
 pub mod Areas
-pub mod Kept
+pub mod AreaRows
 pub mod Keys
 pub mod Lent
 pub mod Plain

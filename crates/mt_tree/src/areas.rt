@@ -5,9 +5,9 @@ ghost use Rattle.mt_path.specs.AccountPath.{AccountPath, parent_of};
 ghost use Rattle.mt_path.specs.Keys.{IsKey, path_at};
 ghost use Rattle.mt_model.specs.Rows.{at, first_rows, is_directory, is_path, remove_refusal, with_row, without_row};
 ghost use Rattle.mt_tree.specs.Areas.{all_of, kept_of, map_of};
-ghost use Rattle.mt_tree.specs.Kept.{IsKept};
+ghost use Rattle.mt_tree.specs.AreaRows.{IsKept};
 
-use crate::kept::{Kept, KeptRow};
+use crate::kept::{AreaRows, KeptRow};
 use mt_types::{Area, Entry, Path};
 use std::alloc::{AllocError, Global};
 
@@ -15,11 +15,11 @@ use std::alloc::{AllocError, Global};
 #[derive(Drop)]
 pub struct Areas<B> {
     /// Those of `stor`.
-    pub stor: Kept<B>,
+    pub stor: AreaRows<B>,
     /// Those of `public`.
-    pub public: Kept<B>,
+    pub public: AreaRows<B>,
     /// Those of `jobs`.
-    pub jobs: Kept<B>,
+    pub jobs: AreaRows<B>,
 }
 
 impl<B> Areas<B> {
@@ -31,14 +31,14 @@ impl<B> Areas<B> {
         ensures kept { IfOk result (λ areas. IsKept (kept_of areas)) }
     {
         Ok(Areas {
-            stor: Kept::root_alone(alloc)?,
-            public: Kept::root_alone(alloc)?,
-            jobs: Kept::root_alone(alloc)?,
+            stor: AreaRows::root_alone(alloc)?,
+            public: AreaRows::root_alone(alloc)?,
+            jobs: AreaRows::root_alone(alloc)?,
         })
     }
 
     /// The rows of an area.
-    pub fn kept(&self, area: Area) -> &Kept<B>
+    pub fn kept(&self, area: Area) -> &AreaRows<B>
         ensures { result.now ≡ map_of self.now area }
     {
         match area {

@@ -3,7 +3,7 @@ ghost use Rattle.std.specs.Prelude.{◌≡◌, ℕ, ◌<◌, ◌≤◌, ◌^◌,
 ghost use Rattle.std.specs.Map.{keys_of, lookup, remove_entry};
 ghost use Rattle.std.specs.BTreeMap.{insert_entry};
 ghost use Rattle.mt_model.specs.Rows.{is_directory};
-ghost use Rattle.mt_tree.specs.Kept.{IsRootAlone, changed, childless, has_directory, is_key, lowered, made_room, parts_above, parts_cmp, raised};
+ghost use Rattle.mt_tree.specs.AreaRows.{IsRootAlone, changed, childless, has_directory, is_key, lowered, made_room, parts_above, parts_cmp, raised};
 ghost use Rattle.mt_tree.specs.Keys.{AreKeys, opened};
 ghost use Rattle.mt_path.specs.Keys.{IsKey, parts_of};
 
@@ -45,12 +45,12 @@ pub type Map<B> = BTreeMap<Vec<u8>, Box<KeptRow<B>>>;
 
 /// The rows of one area, which contracts see by the components of their paths, in the order of these.
 #[derive(Drop)]
-pub struct Kept<B> {
+pub struct AreaRows<B> {
     alloc: Global,
     rows: Map<B>,
 }
 
-impl<B> Model for Kept<B> {
+impl<B> Model for AreaRows<B> {
     ghost use Rattle.std.specs.Prelude.{List};
     ghost use Rattle.mt_tree.specs.declared.kept.KeptRow.{KeptRow};
     ghost use Rattle.mt_path.specs.Keys.{Parts};
@@ -63,15 +63,15 @@ impl<B> Model for Kept<B> {
     ghost invariant = { λ k. AreKeys k.rows.entries };
 }
 
-impl<B> Kept<B> {
+impl<B> AreaRows<B> {
     /// A root alone, made at moment 0.
-    pub fn root_alone(alloc: Global) -> Result<Kept<B>, AllocError>
+    pub fn root_alone(alloc: Global) -> Result<AreaRows<B>, AllocError>
     where
         B: Drop,
         ensures { IfOk result (λ kept. IsRootAlone kept) }
     {
         let rows = root_rows(alloc)?;
-        Ok(Kept { alloc, rows })
+        Ok(AreaRows { alloc, rows })
     }
 
     /// The rows by their keys.

@@ -3,7 +3,7 @@
 //! - `tree`: the type and its calls; `listing`: pages of a directory, and walks over all rows.
 //! - `areas`: the rows of an account; `kept`: those of one area by their keys, which keep the number of their children.
 //! - `plain`: listings as scans of a list, by which the tree is tested.
-//! - `specs/Answer`, `specs/Walk`: what tests and walks answer; `specs/Keys`, `specs/Kept`, `specs/Areas`: how the rows are kept.
+//! - `specs/Answer`, `specs/Walk`: what tests and walks answer; `specs/Keys`, `specs/AreaRows`, `specs/Areas`: how the rows are kept.
 #![tactic(auto)]
 
 mod areas;

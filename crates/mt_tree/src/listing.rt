@@ -4,7 +4,7 @@ ghost use Rattle.std.specs.Map.{keys_of};
 ghost use Rattle.mt_path.specs.AccountPath.{IsPath};
 ghost use Rattle.mt_path.specs.Keys.{IsKey, parts_of, path_at};
 ghost use Rattle.mt_model.specs.Rows.{row_of};
-ghost use Rattle.mt_tree.specs.Kept.{in_area, rows_of};
+ghost use Rattle.mt_tree.specs.AreaRows.{in_area, rows_of};
 ghost use Rattle.mt_tree.specs.Keys.{AreKeys, opened};
 ghost use Rattle.mt_tree.specs.Walk.{cleared, lent_row, page_of, place_in, rows_after, shown};
 ghost use Rattle.mt_tree.specs.Lent.{lent};

@@ -26,7 +26,7 @@ pub struct Tree<B> {
 impl<B> Model for Tree<B> {
     ghost use Rattle.mt_model.specs.Rows.{Rows};
     ghost use Rattle.mt_tree.specs.Areas.{all_of, kept_of};
-    ghost use Rattle.mt_tree.specs.Kept.{IsKept};
+    ghost use Rattle.mt_tree.specs.AreaRows.{IsKept};
 
     ghost Value = { Rows B };
 

@@ -1,7 +1,7 @@
 -- The place stands behind those of its reducer.
 use Rattle.std.proofs.Common.{◌≡◌, ◌%◌, ◌<◌, [], ◌∷◌, ◌++◌, length, set, get_or, ap, ◌∙◌, arith}
 use Rattle.mt_model.specs.Tasks.{reducer_of}
-use Rattle.mt_feeds.specs.Kept.{lists_of}
+use Rattle.mt_feeds.specs.FedJob.{lists_of}
 use Rattle.mt_feeds.proofs.Laid.{list_pushed}
 use Rattle.mt_cert.proofs.shares.add_place.Goals as goal
 

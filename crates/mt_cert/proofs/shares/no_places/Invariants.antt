@@ -1,5 +1,5 @@
 use Rattle.std.proofs.Common.{◌≡◌, [], replicate}
-use Rattle.mt_feeds.specs.Kept.{lists_of}
+use Rattle.mt_feeds.specs.FedJob.{lists_of}
 use Rattle.mt_cert.proofs.shares.no_places.Given as goal
 
 abbrev pub invariant-loop-list : goal.invariant-loop-list

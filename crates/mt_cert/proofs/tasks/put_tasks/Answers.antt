@@ -3,7 +3,7 @@ use Rattle.std.proofs.Common.{◌+◌, ◌<◌, ◌≤◌, ◌≡◌, ◌==◌, 
 use Rattle.std.proofs.lemmas.List.{drop_all}
 use Rattle.std.proofs.lemmas.Result.{err_from_is_err_and}
 use Rattle.mt_certline.specs.declared.line.Line.TheVariants.{Task}
-use Rattle.mt_feeds.specs.Kept.{lists_of}
+use Rattle.mt_feeds.specs.FedJob.{lists_of}
 use Rattle.mt_cert.specs.Putting.{out_at}
 use Rattle.mt_cert.specs.Reading.{listed_by, task_lines}
 use Rattle.mt_cert.proofs.Parts.{task_next, task_other, next_of}

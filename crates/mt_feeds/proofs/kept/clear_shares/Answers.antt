@@ -1,6 +1,6 @@
 use Rattle.std.proofs.Common.{◌<◌, length, map, refl, ap, ◌∙◌, arith}
 use Rattle.std.proofs.lemmas.List.{length-set}
-use Rattle.mt_feeds.specs.Kept.{lists_of}
+use Rattle.mt_feeds.specs.FedJob.{lists_of}
 use Rattle.mt_feeds.proofs.Lookups.{cleared_all, cleared_next}
 use Rattle.mt_feeds.proofs.kept.clear_shares.Goals as goal
 

@@ -1,5 +1,5 @@
 use Rattle.std.proofs.Common.{[], ◌∷◌, ◌++◌, sym, ap, ◌∙◌, append_assoc}
-use Rattle.mt_feeds.specs.Kept.{places_at}
+use Rattle.mt_feeds.specs.FedJob.{places_at}
 use Rattle.mt_feeds.proofs.Feeds.{places_push}
 use Rattle.mt_feeds.proofs.kept.note.Goals as goal
 

@@ -1,5 +1,5 @@
 use Rattle.std.proofs.Common.{◌≡◌, ◌++◌}
-use Rattle.mt_feeds.specs.Kept.{places_at}
+use Rattle.mt_feeds.specs.FedJob.{places_at}
 use Rattle.mt_feeds.proofs.kept.note.Given as goal
 
 abbrev pub invariant-loop-item : goal.invariant-loop-item

@@ -1,6 +1,6 @@
 use Rattle.std.proofs.Common.{[], ◌∷◌, length, ◌++◌, replicate, get_or, sym, ap, subst, take, ◌∙◌, arith}
 use Rattle.std.proofs.lemmas.List.{length-take-le, take_all, take_more}
-use Rattle.mt_feeds.specs.Kept.{AreFeeds}
+use Rattle.mt_feeds.specs.FedJob.{AreFeeds}
 use Rattle.mt_feeds.proofs.Begun.{feeds_first}
 use Rattle.mt_feeds.proofs.noting.feeds_of.Goals as goal
 

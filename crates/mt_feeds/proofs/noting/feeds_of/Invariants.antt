@@ -1,5 +1,5 @@
 use Rattle.std.proofs.Common.{take}
-use Rattle.mt_feeds.specs.Kept.{AreFeeds}
+use Rattle.mt_feeds.specs.FedJob.{AreFeeds}
 use Rattle.mt_feeds.proofs.noting.feeds_of.Given as goal
 
 -- so far they are those of a front of the trace

@@ -1,5 +1,5 @@
 use Rattle.std.proofs.Common.{◌++◌, length, sym, ap, ◌∙◌, arith}
-use Rattle.mt_feeds.specs.Kept.{places_at}
+use Rattle.mt_feeds.specs.FedJob.{places_at}
 use Rattle.mt_feeds.proofs.Feeds.{feeds_entered, feeds_passed}
 use Rattle.mt_feeds.proofs.noting.note_entry.Goals as goal
 

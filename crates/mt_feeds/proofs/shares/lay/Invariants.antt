@@ -1,6 +1,6 @@
 use Rattle.std.proofs.Common.{◌≡◌, take}
 use Rattle.mt_model.specs.Feed.{feed}
-use Rattle.mt_feeds.specs.Kept.{all_shares, lists_of}
+use Rattle.mt_feeds.specs.FedJob.{all_shares, lists_of}
 use Rattle.mt_feeds.proofs.shares.lay.Given as goal
 
 abbrev pub invariant-loop-place : goal.invariant-loop-place

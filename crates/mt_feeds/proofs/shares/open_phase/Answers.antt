@@ -1,6 +1,6 @@
 use Rattle.std.proofs.Common.{map, set, ap, ◌∙◌}
 use Rattle.std.proofs.lemmas.List.{map-set}
-use Rattle.mt_feeds.specs.Kept.{lists_of}
+use Rattle.mt_feeds.specs.FedJob.{lists_of}
 use Rattle.mt_feeds.specs.Opening.{opened_by}
 use Rattle.mt_feeds.proofs.shares.open_phase.Goals as goal
 

@@ -4,7 +4,7 @@ use Rattle.std.proofs.lemmas.Result.{on_ok_weaker}
 use Rattle.mt_model.specs.Feed.{items_of}
 use Rattle.mt_model.specs.JobSteps.{with_entry}
 use Rattle.mt_model.specs.Tasks.{is_running}
-use Rattle.mt_sched.specs.Kept.{plan_at}
+use Rattle.mt_sched.specs.Plans.{plan_at}
 use Rattle.mt_sched.specs.PlanOfJob.{plan_of}
 use Rattle.mt_sched.specs.PlanSteps.{committed_in, grown, with_plan}
 use Rattle.mt_feeds.proofs.Entered.{ready_runs, ready_within}

@@ -1,7 +1,7 @@
 use Rattle.std.proofs.Common.{◌≡◌, Some, None, sym, ap, ◌∙◌}
 use Rattle.std.specs.Option.{unwrap_or}
 use Rattle.mt_model.specs.JobSteps.{with_end}
-use Rattle.mt_sched.specs.Kept.{plan_at}
+use Rattle.mt_sched.specs.Plans.{plan_at}
 use Rattle.mt_sched.specs.PlanOfJob.{plan_of}
 use Rattle.mt_jobs.proofs.Plans.{plan_ended}
 use Rattle.mt_jobs.proofs.inputs.end_kept.Goals as goal

@@ -1,6 +1,6 @@
 use Rattle.std.proofs.Common.{sym, ◌∙◌}
 use Rattle.std.specs.List.{flat_map}
-use Rattle.mt_sched.specs.Kept.{ready_at}
+use Rattle.mt_sched.specs.Plans.{ready_at}
 use Rattle.mt_sched.specs.Plan.{first_but}
 use Rattle.mt_sched.proofs.Looks.{look_found, look_on}
 use Rattle.mt_sched.proofs.sched.first_of_jobs.Goals as goal

@@ -1,6 +1,6 @@
 use Rattle.std.proofs.Common.{◌<◌, sym, ap, subst, arith}
 use Rattle.std.specs.Prelude.{IfSome}
-use Rattle.mt_tree.specs.Kept.{lowered}
+use Rattle.mt_tree.specs.AreaRows.{lowered}
 use Rattle.mt_tree.proofs.Boxed.{opened-row, untouched-opened, written-opened}
 use Rattle.mt_tree.proofs.kept.lower.Goals as goal
 

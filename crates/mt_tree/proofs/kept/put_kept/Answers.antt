@@ -4,7 +4,7 @@ use Rattle.std.specs.Prelude.{not}
 use Rattle.std.specs.BTreeMap.{insert_entry}
 use Rattle.std.specs.Map.{lookup}
 use Rattle.mt_path.specs.Keys.{IsKey, parts_of}
-use Rattle.mt_tree.specs.Kept.{childless, is_key, parts_cmp}
+use Rattle.mt_tree.specs.AreaRows.{childless, is_key, parts_cmp}
 use Rattle.mt_tree.specs.Keys.{opened}
 use Rattle.mt_tree.proofs.Keys.{length-opened}
 use Rattle.mt_tree.proofs.Raised.{still-few}

@@ -8,7 +8,7 @@ use Rattle.std.specs.Ordering.{is_lt, nat_cmp}
 use Rattle.mt_path.specs.AccountPath.{IsPath, area_number}
 use Rattle.mt_path.specs.Keys.{IsClear}
 use Rattle.mt_model.specs.Rows.{row_of}
-use Rattle.mt_tree.specs.Kept.{in_area, parts_cmp, rows_of}
+use Rattle.mt_tree.specs.AreaRows.{in_area, parts_cmp, rows_of}
 use Rattle.mt_tree.specs.Keys.{AreKeys, opened}
 use Rattle.mt_tree.specs.Walk.{rows_after}
 use Rattle.mt_tree.proofs.Paging.{ranged-past, keys_ranged-past}

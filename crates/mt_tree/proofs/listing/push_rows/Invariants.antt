@@ -2,7 +2,7 @@
 use Rattle.std.proofs.Common.{◌-◌, ◌++◌, length, map, take}
 use Rattle.mt_path.specs.AccountPath.{IsPath}
 use Rattle.mt_model.specs.Rows.{row_of}
-use Rattle.mt_tree.specs.Kept.{in_area, rows_of}
+use Rattle.mt_tree.specs.AreaRows.{in_area, rows_of}
 use Rattle.mt_tree.specs.Keys.{AreKeys, opened}
 use Rattle.mt_tree.proofs.Copies.{Copying}
 use Rattle.mt_tree.proofs.Joined.{path_in}

@@ -1,5 +1,5 @@
 use Rattle.std.proofs.Common.{sym, subst}
-use Rattle.mt_sched.specs.Kept.{IsAbove}
+use Rattle.mt_sched.specs.Plans.{IsAbove}
 use Rattle.mt_sched.proofs.Above.{above_without}
 use Rattle.job_rows.proofs.queues.Queues.remove.Goals as goal
 

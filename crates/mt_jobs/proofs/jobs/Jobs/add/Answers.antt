@@ -7,8 +7,8 @@ use Rattle.mt_model.specs.State.{job_at, with_job}
 use Rattle.mt_sched.specs.PlanOfJob.{inputs_in, plan_of}
 use Rattle.mt_sched.specs.PlanSteps.{grown}
 use Rattle.mt_sched.proofs.Changes.{plan_lines}
-use Rattle.mt_feeds.specs.declared.kept.Kept.{Kept}
-use Rattle.mt_jobs.specs.Kept.{IsFound, jobs_in}
+use Rattle.mt_feeds.specs.declared.kept.FedJob.{FedJob}
+use Rattle.mt_jobs.specs.JobList.{IsFound, jobs_in}
 use Rattle.mt_jobs.proofs.Allowed.{all_at, kept_at, lines_open, refusal_of}
 use Rattle.mt_jobs.proofs.Changes.{at_job, jobs_changed, jobs_written}
 use Rattle.mt_jobs.proofs.Numbers.{found_job, found_none, with_job_is, with_no_job}
@@ -28,7 +28,7 @@ invariant_of-self g c =
     let old = c.index_mut.result.now in
     let rows = c.args.tree.now in
     let lines = c.args.lines.now in
-    let new : Kept g.row.B.Denot = record old { job = c.add_all.new.job } in
+    let new : FedJob g.row.B.Denot = record old { job = c.add_all.new.job } in
     let found = subst (λ l. IsFound c.args.job l (Some c.in-Some.place)) c.deref.ensures.value c.in-Some.ensures in
     let it = found_job c.args.job kept c.in-Some.place old found c.index_mut.ensures.value in
     let open_so_far = lines_open lines old.job (refusal_of (job_at c.args.self.now c.args.job) old.job (add_inputs_refusal lines) (ap (λ l. job_at l c.args.job) (sym c.self.view_is) ∙ it.job) c.requires.allowed) in
@@ -44,7 +44,7 @@ returns-in-Ok g c = λ position moment.
     let old = c.index_mut.result.now in
     let rows = c.args.tree.now in
     let lines = c.args.lines.now in
-    let new : Kept g.row.B.Denot = record old { job = c.add_all.new.job } in
+    let new : FedJob g.row.B.Denot = record old { job = c.add_all.new.job } in
     let found = subst (λ l. IsFound c.args.job l (Some c.in-Some.place)) c.deref.ensures.value c.in-Some.ensures in
     let it = found_job c.args.job kept c.in-Some.place old found c.index_mut.ensures.value in
     add_is position rows c.args.self.now _ c.args.job lines moment

@@ -11,7 +11,7 @@ use Rattle.mt_sched.specs.PlanSteps.{committed_in, grown}
 use Rattle.mt_sched.proofs.Changes.{plan_commit}
 use Rattle.mt_feeds.proofs.Entered.{ready_runs}
 use Rattle.mt_resolve.proofs.Ready.{is_committing, records_ready}
-use Rattle.mt_jobs.specs.Kept.{IsFound, jobs_in}
+use Rattle.mt_jobs.specs.JobList.{IsFound, jobs_in}
 use Rattle.mt_jobs.proofs.Allowed.{all_at, kept_at, plan_here, refusal_of, there}
 use Rattle.mt_jobs.proofs.Changes.{at_job, jobs_changed, jobs_written}
 use Rattle.mt_jobs.proofs.Numbers.{found_job, found_none, with_job_is}

@@ -7,7 +7,7 @@ use Rattle.mt_model.specs.Tasks.{is_running}
 use Rattle.mt_sched.specs.PlanOfJob.{plan_of}
 use Rattle.mt_sched.specs.PlanSteps.{ended_plan}
 use Rattle.mt_sched.proofs.Changes.{plan_end}
-use Rattle.mt_jobs.specs.Kept.{IsFound, jobs_in}
+use Rattle.mt_jobs.specs.JobList.{IsFound, jobs_in}
 use Rattle.mt_jobs.proofs.Allowed.{all_at, input_open, plan_here, refusal_of}
 use Rattle.mt_jobs.proofs.Changes.{at_job, jobs_changed, jobs_written}
 use Rattle.mt_jobs.proofs.Numbers.{found_job, found_none, with_job_is, with_no_job}

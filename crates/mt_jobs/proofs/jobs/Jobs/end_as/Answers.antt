@@ -2,7 +2,7 @@ use Rattle.std.proofs.Common.{◌≡◌, Some, None, sym, ap, subst, ◌∙◌}
 use Rattle.std.proofs.lemmas.Result.{on_err_weaker, on_ok_weaker}
 use Rattle.mt_model.specs.JobSteps.{done_at}
 use Rattle.mt_model.specs.State.{job_at, with_job}
-use Rattle.mt_jobs.specs.Kept.{IsFound, jobs_in}
+use Rattle.mt_jobs.specs.JobList.{IsFound, jobs_in}
 use Rattle.mt_jobs.proofs.Changes.{at_job, jobs_written}
 use Rattle.mt_jobs.proofs.Ended.{ended_either}
 use Rattle.mt_jobs.proofs.Numbers.{found_job, found_none, with_job_is, with_no_job}

@@ -2,8 +2,8 @@ use Rattle.std.proofs.Common.{◌≡◌, false, Some, None, sym, ap, ◌∙◌}
 use Rattle.std.specs.Option.{option_map_or}
 use Rattle.mt_model.specs.State.{job_at}
 use Rattle.mt_model.specs.Tasks.{is_ready}
-use Rattle.mt_sched.specs.Kept.{plan_at}
-use Rattle.mt_jobs.specs.Kept.{jobs_in}
+use Rattle.mt_sched.specs.Plans.{plan_at}
+use Rattle.mt_jobs.specs.JobList.{jobs_in}
 use Rattle.mt_jobs.proofs.Asked.{ready_never, ready_there}
 use Rattle.mt_jobs.proofs.Numbers.{plan_if, plan_where}
 use Rattle.mt_jobs.proofs.jobs.Jobs.is_ready.Goals as goal

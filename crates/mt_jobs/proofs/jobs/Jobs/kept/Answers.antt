@@ -1,6 +1,6 @@
 use Rattle.std.proofs.Common.{sym, ap, subst, ◌∙◌, Some, None}
 use Rattle.mt_model.specs.State.{job_at}
-use Rattle.mt_jobs.specs.Kept.{IsFound}
+use Rattle.mt_jobs.specs.JobList.{IsFound}
 use Rattle.mt_jobs.proofs.Numbers.{found_job, found_none}
 use Rattle.mt_jobs.proofs.jobs.Jobs.kept.Goals as goal
 

@@ -4,8 +4,8 @@ use Rattle.mt_types.specs.declared.job.Job.{Job}
 use Rattle.mt_model.specs.JobSteps.{new_job, with_folders}
 use Rattle.mt_model.specs.Names.{job_folder, job_stor, number_at}
 use Rattle.mt_model.specs.Rows.{at}
-use Rattle.mt_sched.specs.Kept.{IsAbove}
-use Rattle.mt_jobs.specs.Kept.{jobs_in}
+use Rattle.mt_sched.specs.Plans.{IsAbove}
+use Rattle.mt_jobs.specs.JobList.{jobs_in}
 use Rattle.mt_jobs.proofs.Added.{above_plans, all_below, jobs_pushed, jobs_with_new, small, unused}
 use Rattle.mt_jobs.proofs.States.{make_is}
 use Rattle.mt_jobs.proofs.jobs.Jobs.make.Goals as goal

@@ -2,7 +2,7 @@ use Rattle.std.proofs.Common.{ap, ◌∙◌, flat_map}
 use Rattle.mt_model.specs.Tasks.{ready}
 use Rattle.mt_sched.specs.Plan.{all_ready, first_but}
 use Rattle.mt_sched.proofs.Plain.{all_ready_plain}
-use Rattle.mt_jobs.specs.Kept.{jobs_in}
+use Rattle.mt_jobs.specs.JobList.{jobs_in}
 use Rattle.mt_jobs.proofs.jobs.Jobs.next_ready.Goals as goal
 
 pub returns : goal.returns

@@ -3,7 +3,7 @@ use Rattle.std.specs.List.{filter, filter_map}
 use Rattle.std.specs.List.Sorted.{IsStrictlySortedBy}
 use Rattle.std.specs.Ordering.{nat_cmp}
 use Rattle.mt_model.specs.State.{job_at}
-use Rattle.mt_jobs.specs.Kept.{numbers_of}
+use Rattle.mt_jobs.specs.JobList.{numbers_of}
 use Rattle.mt_jobs.proofs.Paged.{page_found}
 use Rattle.mt_jobs.proofs.Walks.{found_done}
 use Rattle.mt_jobs.proofs.jobs.Jobs.page.Goals as goal

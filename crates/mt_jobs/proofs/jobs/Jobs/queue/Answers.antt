@@ -1,8 +1,8 @@
 use Rattle.std.proofs.Common.{◌≡◌, sym, ap, ◌∙◌, true, Some, None}
 use Rattle.std.specs.Prelude.{is_some}
 use Rattle.mt_model.specs.State.{job_at}
-use Rattle.mt_sched.specs.Kept.{plan_at}
-use Rattle.mt_jobs.specs.Kept.{jobs_in}
+use Rattle.mt_sched.specs.Plans.{plan_at}
+use Rattle.mt_jobs.specs.JobList.{jobs_in}
 use Rattle.mt_jobs.specs.Queues.{queue_of}
 use Rattle.mt_jobs.proofs.Numbers.{plan_if, plan_where}
 use Rattle.mt_resolve.proofs.References.{copied_some}

@@ -2,7 +2,7 @@ use Rattle.std.proofs.Common.{ap, ◌∙◌, find, option_map}
 use Rattle.mt_model.specs.Tasks.{waits_finish}
 use Rattle.mt_sched.specs.Plan.{first_waiting}
 use Rattle.mt_sched.proofs.Plain.{first_waiting_plain}
-use Rattle.mt_jobs.specs.Kept.{jobs_in}
+use Rattle.mt_jobs.specs.JobList.{jobs_in}
 use Rattle.mt_jobs.proofs.jobs.Jobs.waits_finish.Goals as goal
 
 pub returns : goal.returns

@@ -1,5 +1,5 @@
 use Rattle.std.proofs.Common.{[], ◌∷◌, ◌++◌, sym, ap, subst, ◌∙◌}
-use Rattle.mt_sched.specs.Kept.{IsAbove}
+use Rattle.mt_sched.specs.Plans.{IsAbove}
 use Rattle.mt_sched.specs.Plan.{has_ready_in, waits_in}
 use Rattle.mt_sched.specs.PlanOfJob.{kinds_of}
 use Rattle.mt_sched.specs.PlanSteps.{first_plan}

@@ -1,7 +1,7 @@
 use Rattle.std.proofs.Common.{sym, ap, ◌∙◌}
 use Rattle.std.specs.Map.{lookup}
 use Rattle.mt_path.specs.Keys.{parts_of}
-use Rattle.mt_tree.specs.Kept.{is_key}
+use Rattle.mt_tree.specs.AreaRows.{is_key}
 use Rattle.mt_tree.proofs.Joined.{lookup-joined}
 use Rattle.mt_tree.proofs.Pages.{map-is}
 use Rattle.mt_tree.proofs.areas.Areas.get.Goals as goal

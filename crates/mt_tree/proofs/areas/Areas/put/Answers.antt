@@ -3,7 +3,7 @@ use Rattle.std.proofs.Common.{◌≡◌, ◌<◌, length, sym, ap, subst, ◌∙
 use Rattle.std.specs.Prelude.{IfOk, not}
 use Rattle.mt_path.specs.Keys.{parts_of}
 use Rattle.mt_path.specs.declared.area.Area.TheVariants.{Stor, Public, Jobs}
-use Rattle.mt_tree.specs.Kept.{parts_above}
+use Rattle.mt_tree.specs.AreaRows.{parts_above}
 use Rattle.mt_tree.proofs.Placed.{counted-few, failed-rows, inserted-kept, inserted-rows, path_is, same-rows, stands}
 use Rattle.mt_tree.proofs.areas.Areas.put.Goals as goal
 

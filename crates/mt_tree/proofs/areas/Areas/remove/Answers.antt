@@ -2,7 +2,7 @@
 use Rattle.std.proofs.Common.{sym, ap, ◌∙◌}
 use Rattle.mt_path.specs.Keys.{parts_of}
 use Rattle.mt_path.specs.declared.area.Area.TheVariants.{Stor, Public, Jobs}
-use Rattle.mt_tree.specs.Kept.{parts_above}
+use Rattle.mt_tree.specs.AreaRows.{parts_above}
 use Rattle.mt_tree.proofs.Placed.{counted-positive, removed-rows, removed-kept, path_is}
 use Rattle.mt_tree.proofs.areas.Areas.remove.Goals as goal
 

@@ -6,7 +6,7 @@ use Rattle.mt_path.specs.AccountPath.{IsPath}
 use Rattle.std.specs.Option.{option_copied}
 use Rattle.mt_path.specs.declared.area.Area.TheVariants.{Stor, Public, Jobs}
 use Rattle.mt_model.specs.Rows.{row_of}
-use Rattle.mt_tree.specs.Kept.{in_area, rows_of}
+use Rattle.mt_tree.specs.AreaRows.{in_area, rows_of}
 use Rattle.mt_tree.specs.Walk.{rows_after}
 use Rattle.mt_tree.proofs.Copies.{after-joined, three}
 use Rattle.mt_tree.proofs.Shown.{paths-part}

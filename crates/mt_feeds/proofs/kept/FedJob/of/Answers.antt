@@ -1,6 +1,6 @@
 use Rattle.std.proofs.Common.{[], ap, ◌∙◌, replicate}
 use Rattle.mt_feeds.proofs.Begun.{kept_of}
-use Rattle.mt_feeds.proofs.kept.Kept.of.Goals as goal
+use Rattle.mt_feeds.proofs.kept.FedJob.of.Goals as goal
 
 pub returns-clause-kept : goal.returns-clause-kept
 returns-clause-kept g c =

@@ -8,12 +8,12 @@ use Rattle.mt_types.specs.declared.job.Job.{Job}
 use Rattle.mt_model.specs.Tasks.{is_running}
 use Rattle.mt_sched.specs.Plan.{Plan}
 use Rattle.mt_sched.specs.PlanOfJob.{plans_of}
-use Rattle.mt_feeds.specs.declared.kept.Kept.{Kept}
-use Rattle.mt_feeds.specs.Kept.{IsKept}
+use Rattle.mt_feeds.specs.declared.kept.FedJob.{FedJob}
+use Rattle.mt_feeds.specs.FedJob.{IsKept}
 
 module _ {B : Type 0} where
   -- the jobs, without what is kept beside them
-  abbrev pub jobs_in : List (Kept B) → List (Job B)
+  abbrev pub jobs_in : List (FedJob B) → List (Job B)
   jobs_in kept = map (λ k. k.job) kept
 
   -- their numbers
@@ -30,7 +30,7 @@ module _ {B : Type 0} where
 
   -- the numbers rise; each job has what is kept of it; the queues are those of the jobs that run; the two sets have the numbers of
   -- those that run and of those that are done
-  pub record IsJobs (kept : List (Kept B)) (plans : List (ℕ × Plan)) (running done : List ℕ) : Type 0 where
+  pub record IsJobs (kept : List (FedJob B)) (plans : List (ℕ × Plan)) (running done : List ℕ) : Type 0 where
     pub rising : IsStrictlySortedBy nat_cmp (numbers_of (jobs_in kept))
     pub small : All (λ k. k.job.number < 2 ^ 62) kept
     pub each : All IsKept kept
@@ -39,6 +39,6 @@ module _ {B : Type 0} where
     pub done_are : done ≡ done_of (jobs_in kept)
 
   -- where the job of a number stands, if there is one
-  pub record IsFound (number : ℕ) (kept : List (Kept B)) (found : Option ℕ) : Type 0 where
+  pub record IsFound (number : ℕ) (kept : List (FedJob B)) (found : Option ℕ) : Type 0 where
     pub there : option_and_then (slice_get kept) found ≡ find (λ k. k.job.number == number) kept
     pub within : IfSome found (λ k. k < length kept)

@@ -1,7 +1,7 @@
 use Rattle.std.proofs.Common.{◌≡◌, map}
-use Rattle.mt_feeds.specs.Kept.{lists_of}
+use Rattle.mt_feeds.specs.FedJob.{lists_of}
 use Rattle.mt_feeds.proofs.Opened.{OpenTo}
-use Rattle.mt_feeds.proofs.kept.Kept.open.Given as goal
+use Rattle.mt_feeds.proofs.kept.FedJob.open.Given as goal
 
 abbrev pub invariant-loop-phase : goal.invariant-loop-phase
 invariant-loop-phase g l = record {

@@ -1,8 +1,8 @@
 use Rattle.std.proofs.Common.{◌+◌, map, sym, ap, subst, ◌∙◌, arith}
-use Rattle.mt_feeds.specs.Kept.{AreFeeds, AreShares, lists_of}
+use Rattle.mt_feeds.specs.FedJob.{AreFeeds, AreShares, lists_of}
 use Rattle.mt_feeds.specs.Opening.{opened_at}
 use Rattle.mt_feeds.proofs.Opened.{OpenTo, open_all, open_on}
-use Rattle.mt_feeds.proofs.kept.Kept.open.Goals as goal
+use Rattle.mt_feeds.proofs.kept.FedJob.open.Goals as goal
 
 pub loop-phase-preserved : goal.loop-phase-preserved
 loop-phase-preserved g c =

@@ -4,7 +4,7 @@ use Rattle.std.specs.List.{slice_get}
 use Rattle.std.specs.Option.{option_map_or}
 use Rattle.std.proofs.lemmas.Option.{slice_get-get_or}
 use Rattle.mt_feeds.proofs.Read.{count_map, count_places}
-use Rattle.mt_feeds.proofs.kept.Kept.read_count.Goals as goal
+use Rattle.mt_feeds.proofs.kept.FedJob.read_count.Goals as goal
 
 pub returns-in-Map : goal.returns-in-Map
 returns-in-Map g c =

@@ -1,9 +1,9 @@
 use Rattle.std.proofs.Common.{map, sym, subst, ◌∙◌}
 use Rattle.mt_model.specs.JobSteps.{done_at}
 use Rattle.mt_model.proofs.Maps.{length-map}
-use Rattle.mt_feeds.specs.Kept.{AreShares, lists_of}
+use Rattle.mt_feeds.specs.FedJob.{AreShares, lists_of}
 use Rattle.mt_feeds.proofs.Opened.{shares_cleared}
-use Rattle.mt_feeds.proofs.kept.Kept.set_done.Goals as goal
+use Rattle.mt_feeds.proofs.kept.FedJob.set_done.Goals as goal
 
 pub returns-clause-kept : goal.returns-clause-kept
 returns-clause-kept g c =

@@ -3,10 +3,10 @@ use Rattle.std.specs.List.{slice_get}
 use Rattle.std.specs.Option.{option_and_then}
 use Rattle.std.proofs.lemmas.Option.{slice_get-get_or, slice_get_past}
 use Rattle.mt_model.specs.Feed.{feed}
-use Rattle.mt_feeds.specs.Kept.{item_at}
+use Rattle.mt_feeds.specs.FedJob.{item_at}
 use Rattle.mt_feeds.proofs.Feeds.{item_after}
 use Rattle.mt_feeds.proofs.Read.{within_same}
-use Rattle.mt_feeds.proofs.kept.Kept.item.Goals as goal
+use Rattle.mt_feeds.proofs.kept.FedJob.item.Goals as goal
 
 pub returns-in-Some : goal.returns-in-Some
 returns-in-Some g c =

@@ -13,7 +13,7 @@ use Rattle.mt_types.specs.declared.job.TraceEntry.{TraceEntry}
 use Rattle.mt_model.specs.Feed.{feed, items_of}
 use Rattle.mt_model.specs.Tasks.{is_running, may_begin, share_places}
 use Rattle.mt_feeds.specs.declared.kept.At.{At}
-use Rattle.mt_feeds.specs.declared.kept.Kept.{Kept}
+use Rattle.mt_feeds.specs.declared.kept.FedJob.{FedJob}
 
 -- where so many outputs of the entry at this place of a trace stand
 abbrev pub places_at : ℕ → ℕ → List At
@@ -70,6 +70,6 @@ module _ {B : Type 0} where
     pub right : (n : ℕ) (p : Phase) (lists : List (List ℕ)) → slice_get job.document.phases n ≡ Some p → slice_get laid n ≡ Some lists → lists ≡ shares_of job n p
 
   -- both
-  pub record IsKept (k : Kept B) : Type 0 where
+  pub record IsKept (k : FedJob B) : Type 0 where
     pub feeds : AreFeeds k.job k.feeds.items
     pub shares : AreShares k.job (map lists_of k.shares.items)

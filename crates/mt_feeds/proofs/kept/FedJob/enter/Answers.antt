@@ -1,9 +1,9 @@
 use Rattle.std.proofs.Common.{◌++◌, length, map, set, sym, ap, subst, ◌∙◌, arith}
-use Rattle.mt_feeds.specs.Kept.{AreFeeds, lists_of, places_at}
+use Rattle.mt_feeds.specs.FedJob.{AreFeeds, lists_of, places_at}
 use Rattle.mt_feeds.specs.Opening.{WereShares}
 use Rattle.mt_feeds.proofs.Entered.{ready_within, were_entered}
 use Rattle.mt_feeds.proofs.Feeds.{feeds_entered}
-use Rattle.mt_feeds.proofs.kept.Kept.enter.Goals as goal
+use Rattle.mt_feeds.proofs.kept.FedJob.enter.Goals as goal
 
 pub index_mut-requires : goal.index_mut-requires
 index_mut-requires g c =

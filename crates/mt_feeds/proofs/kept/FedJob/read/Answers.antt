@@ -3,7 +3,7 @@ use Rattle.std.specs.List.{slice_get}
 use Rattle.std.proofs.lemmas.Option.{slice_get-get_or}
 use Rattle.mt_feeds.specs.Reading.{item_of, read_of}
 use Rattle.mt_feeds.proofs.Read.{read_map, read_map_past, read_places}
-use Rattle.mt_feeds.proofs.kept.Kept.read.Goals as goal
+use Rattle.mt_feeds.proofs.kept.FedJob.read.Goals as goal
 
 pub returns-then-k-eq0 : goal.returns-then-k-eq0
 returns-then-k-eq0 g c =

@@ -1,7 +1,7 @@
 use Rattle.std.proofs.Common.{map}
-use Rattle.mt_feeds.specs.Kept.{lists_of}
+use Rattle.mt_feeds.specs.FedJob.{lists_of}
 use Rattle.mt_feeds.proofs.Opened.{were_ended}
-use Rattle.mt_feeds.proofs.kept.Kept.end.Goals as goal
+use Rattle.mt_feeds.proofs.kept.FedJob.end.Goals as goal
 
 pub returns-clause-feeds : goal.returns-clause-feeds
 returns-clause-feeds g c = record { each = c.requires.kept.feeds.each; noted = c.requires.kept.feeds.noted }

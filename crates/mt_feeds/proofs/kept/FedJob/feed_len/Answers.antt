@@ -1,7 +1,7 @@
 use Rattle.std.proofs.Common.{sym, ap, ◌∙◌, arith, ◌-◌, Some}
 use Rattle.std.proofs.lemmas.Option.{slice_get-get_or}
 use Rattle.mt_feeds.proofs.Feeds.{count_after}
-use Rattle.mt_feeds.proofs.kept.Kept.feed_len.Goals as goal
+use Rattle.mt_feeds.proofs.kept.FedJob.feed_len.Goals as goal
 
 pub returns : goal.returns
 returns g c =
