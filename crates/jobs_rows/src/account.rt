@@ -7,7 +7,7 @@ ghost use Rattle.mt_model.specs.CommandStep.{outside_jobs};
 ghost use Rattle.mt_model.specs.Rows.{make_directory_refusal, put_refusal};
 ghost use Rattle.mt_tree.specs.Answer.{answer};
 
-use mt_jobs::{Jobs, may_make};
+use mt_jobs::{Jobs, may_make_job};
 use mt_rows::Stop;
 use mt_tree::Tree;
 use mt_types::{
@@ -169,7 +169,7 @@ impl Account {
         requires room { self.count < MOST_COMMANDS }
         requires document { IsDocument document }
     {
-        match may_make(&self.tree, &document) {
+        match may_make_job(&self.tree, &document) {
             Err(refusal) => Ok((self, Err(refusal))),
             Ok(()) => {
                 let Account {
@@ -177,7 +177,7 @@ impl Account {
                     mut jobs,
                     position,
                 } = self;
-                jobs.make(
+                jobs.make_job(
                     alloc,
                     &mut tree,
                     document,
@@ -199,7 +199,7 @@ impl Account {
         requires room { self.count < MOST_COMMANDS }
         requires lines { AllByRecursion IsWellMadeLine lines.now }
     {
-        match self.jobs.may_add(job, lines) {
+        match self.jobs.may_add_inputs(job, lines) {
             Err(refusal) => Ok((self, Err(refusal))),
             Ok(()) => {
                 let Account {
@@ -207,7 +207,7 @@ impl Account {
                     mut jobs,
                     position,
                 } = self;
-                jobs.add(alloc, &tree, job, lines)?;
+                jobs.add_inputs(alloc, &tree, job, lines)?;
                 let account = Account {
                     tree,
                     jobs,
@@ -222,7 +222,7 @@ impl Account {
     pub fn end(self, alloc: Global, job: u64) -> Changed
         requires { self.count < MOST_COMMANDS }
     {
-        match self.jobs.may_end(job) {
+        match self.jobs.may_end_input(job) {
             Err(refusal) => Ok((self, Err(refusal))),
             Ok(()) => {
                 let Account {
@@ -230,7 +230,7 @@ impl Account {
                     mut jobs,
                     position,
                 } = self;
-                jobs.end(alloc, job)?;
+                jobs.end_input(alloc, job)?;
                 let account = Account {
                     tree,
                     jobs,

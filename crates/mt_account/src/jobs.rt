@@ -9,7 +9,7 @@ ghost use Rattle.mt_types.specs.declared.limits.TheConstants.{MOST_COMMANDS};
 ghost use Rattle.mt_jobs.specs.Shown.{state_of};
 ghost use Rattle.mt_account.specs.Taken.{IsOfJobs, IsTaken};
 
-use mt_jobs::{Jobs, may_make};
+use mt_jobs::{Jobs, may_make_job};
 use mt_tree::Tree;
 use mt_types::{Body, Command, Refusal, Task};
 use std::alloc::{AllocError, Global};
@@ -49,9 +49,9 @@ pub fn judge(tree: &Tree<Body>, jobs: &Jobs<Body>, command: &Command<Body>) -> R
     ensures { (count : ℕ) → result ≡ answer (allowed (λ b. b.len) (state_of count tree.now jobs.now) command.now) }
 {
     match command {
-        Command::NewJob { document, .. } => may_make(tree, document),
-        Command::AddInputs { job, lines, .. } => jobs.may_add(*job, lines.as_slice()),
-        Command::EndInput { job, .. } => jobs.may_end(*job),
+        Command::NewJob { document, .. } => may_make_job(tree, document),
+        Command::AddInputs { job, lines, .. } => jobs.may_add_inputs(*job, lines.as_slice()),
+        Command::EndInput { job, .. } => jobs.may_end_input(*job),
         Command::Commit {
             job,
             phase,
@@ -87,9 +87,14 @@ pub fn change(
     ensures { OnOk result (state_of count tree.new jobs.new ≡ change (state_of count tree.old jobs.old) command) }
 {
     match command {
-        Command::NewJob { document, moment } => jobs.make(alloc, tree, document, count, moment),
-        Command::AddInputs { job, lines, .. } => jobs.add(alloc, tree, job, lines.as_slice()),
-        Command::EndInput { job, .. } => jobs.end(alloc, job),
+        Command::NewJob { document, moment } => jobs.make_job(alloc, tree, document, count, moment),
+        Command::AddInputs { job, lines, .. } => jobs.add_inputs(
+            alloc,
+            tree,
+            job,
+            lines.as_slice(),
+        ),
+        Command::EndInput { job, .. } => jobs.end_input(alloc, job),
         Command::Commit {
             job,
             phase,

@@ -12,7 +12,7 @@ ghost use Rattle.mt_types.specs.declared.job.Job.{Job};
 use crate::judge::{code_of, limit_refusal};
 use crate::posted::Posted;
 use mt_error::{ErrorCode, Refused};
-use mt_jobs::{Jobs, may_make};
+use mt_jobs::{Jobs, may_make_job};
 use mt_request::{JobDoing, JobRequest};
 use mt_tree::Tree;
 use mt_types::{Body, InputLine, Refusal};
@@ -44,7 +44,7 @@ fn document_refusal(tree: &Tree<Body>, posted: &Posted) -> Option<Refused>
     ensures { (count : ℕ) (jobs : List (Job Body)) → result ≡ document_refusal len_of (state_of count tree.now jobs) posted.now }
 {
     match posted {
-        Posted::Document(document) => told(may_make(tree, document)),
+        Posted::Document(document) => told(may_make_job(tree, document)),
         Posted::Nothing
         | Posted::NoDocument
         | Posted::Lines(_)
@@ -58,7 +58,7 @@ fn add_test(jobs: &Jobs<Body>, job: Option<u64>, lines: &[InputLine]) -> Result<
     ensures { result ≡ answer (job_refusal (asked_job jobs.now job) (add_inputs_refusal lines.now)) }
 {
     match job {
-        Some(job) => jobs.may_add(job, lines),
+        Some(job) => jobs.may_add_inputs(job, lines),
         None => Err(Refusal::JobNotFound),
     }
 }
@@ -68,7 +68,7 @@ fn end_test(jobs: &Jobs<Body>, job: Option<u64>) -> Result<(), Refusal>
     ensures { result ≡ answer (job_refusal (asked_job jobs.now job) input_refusal) }
 {
     match job {
-        Some(job) => jobs.may_end(job),
+        Some(job) => jobs.may_end_input(job),
         None => Err(Refusal::JobNotFound),
     }
 }

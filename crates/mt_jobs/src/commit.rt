@@ -114,7 +114,7 @@ fn entry_of<B: Duplicate>(
 }
 
 // Commits a task of a job.
-fn commit_kept<B: Duplicate>(
+fn commit_task<B: Duplicate>(
     alloc: Global,
     tree: &mut Tree<B>,
     kept: &mut FedJob<B>,
@@ -168,7 +168,7 @@ impl<B: Duplicate> Jobs<B> {
         let Some(at) = find(&self.jobs, task.job) else {
             return Ok(());
         };
-        match commit_kept(
+        match commit_task(
             alloc,
             tree,
             &mut self.jobs[at],

@@ -24,7 +24,7 @@ use std::alloc::{AllocError, Global};
 use std::collections::BTreeSet;
 
 // A job is done: its queue is dropped, and its number moves from one set to the other. On want of memory nothing has changed.
-fn end_kept<B>(
+fn mark_done<B>(
     kept: &mut FedJob<B>,
     sched: &mut Sched,
     running: &mut BTreeSet<u64>,
@@ -137,7 +137,7 @@ impl<B> Jobs<B> {
         ensures err { OnErr result (self.new ≡ self.old) }
     {
         match find(&self.jobs, job) {
-            Some(place) => end_kept(
+            Some(place) => mark_done(
                 &mut self.jobs[place],
                 &mut self.sched,
                 &mut self.running,

@@ -114,7 +114,7 @@ fn add_all<B: Duplicate>(
 }
 
 // Ends the input of a job, and lays out the shares of what may then begin.
-fn end_kept<B>(alloc: Global, kept: &mut FedJob<B>, sched: &mut Sched) -> Result<(), AllocError>
+fn end_input_of<B>(alloc: Global, kept: &mut FedJob<B>, sched: &mut Sched) -> Result<(), AllocError>
     requires kept { IsKept kept.old }
     requires document { IsDocument kept.old.job.document }
     requires runs { is_running kept.old.job ≡ true }
@@ -143,9 +143,9 @@ impl<B: Duplicate> Jobs<B> {
     ghost use Rattle.mt_model.specs.State.{job_at};
     ghost use Rattle.mt_jobs.specs.Shown.{state_of};
 
-    /// Posts lines to a job. [`Jobs::may_add`] has to allow it. A line that names an object becomes an input, with the body that the
+    /// Posts lines to a job. [`Jobs::may_add_inputs`] has to allow it. A line that names an object becomes an input, with the body that the
     /// object holds now; any other is missing. On an error, which is want of memory, the jobs may be any.
-    pub fn add(
+    pub fn add_inputs(
         &mut self,
         alloc: Global,
         tree: &Tree<B>,
@@ -174,9 +174,9 @@ impl<B: Duplicate> Jobs<B> {
         }
     }
 
-    /// Ends the input of a job. [`Jobs::may_end`] has to allow it. The shares of a reduce phase that may begin by it are laid out, at
+    /// Ends the input of a job. [`Jobs::may_end_input`] has to allow it. The shares of a reduce phase that may begin by it are laid out, at
     /// the cost of what it reads. On an error, which is want of memory, the jobs may be any.
-    pub fn end(&mut self, alloc: Global, job: u64) -> Result<(), AllocError>
+    pub fn end_input(&mut self, alloc: Global, job: u64) -> Result<(), AllocError>
         requires allowed { job_refusal (job_at self.old job) input_refusal ≡ None }
         requires documents { All (λ j. IsDocument j.document) self.old }
         ensures { OnOk result ((position moment : ℕ) (rows : Rows B) → state_of position rows self.new ≡ change (state_of position rows self.old) (EndInput job moment)) }
@@ -184,7 +184,7 @@ impl<B: Duplicate> Jobs<B> {
         let Some(place) = find(&self.jobs, job) else {
             return Ok(());
         };
-        match end_kept(alloc, &mut self.jobs[place], &mut self.sched) {
+        match end_input_of(alloc, &mut self.jobs[place], &mut self.sched) {
             Ok(()) => Ok(()),
             Err(error) => {
                 *self = Jobs::new(alloc);

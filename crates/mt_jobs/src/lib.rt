@@ -14,5 +14,5 @@ mod reading;
 mod refusals;
 
 pub use jobs::Jobs;
-pub use making::may_make;
+pub use making::may_make_job;
 pub use mt_types::JobStand;

@@ -80,7 +80,7 @@ fn have_large_assets(tree: &Tree<Body>, phases: &[Phase]) -> bool
 
 /// Whether a job of this document may be made: `NotFound` where an asset is no object, `AssetsTooLarge` where those of one phase
 /// have more than 16 MiB together. It looks each asset up once or twice, and takes no memory.
-pub fn may_make(tree: &Tree<Body>, document: &JobDocument) -> Result<(), Refusal>
+pub fn may_make_job(tree: &Tree<Body>, document: &JobDocument) -> Result<(), Refusal>
     ensures { result ≡ answer (new_job_refusal (λ b. b.len) tree.now document.now) }
 {
     if lack_assets(tree, document.phases.as_slice()) {
@@ -167,7 +167,7 @@ fn make_folders<B: Drop>(
 }
 
 // Adds a job behind the others, with its queue.
-fn add_kept<B: Drop>(
+fn push_job<B: Drop>(
     alloc: Global,
     jobs: &mut Vec<FedJob<B>>,
     sched: &mut Sched,
@@ -193,9 +193,9 @@ impl<B: Duplicate> Jobs<B> {
     ghost use Rattle.mt_model.specs.Lawful.{LawfulJobs, LawfulRows};
     ghost use Rattle.mt_jobs.specs.Shown.{state_of};
 
-    /// Makes a job, with its two folders, as the command after so many. [`may_make`] has to allow it for the state to stay lawful.
+    /// Makes a job, with its two folders, as the command after so many. [`may_make_job`] has to allow it for the state to stay lawful.
     /// On an error, which is want of memory, rows and jobs may be any.
-    pub fn make(
+    pub fn make_job(
         &mut self,
         alloc: Global,
         tree: &mut Tree<B>,
@@ -211,7 +211,7 @@ impl<B: Duplicate> Jobs<B> {
         let number = position * NUMBERS_A_COMMAND;
         let kept = FedJob::of(alloc, new_job(alloc, tree, number, document, moment)?)?;
         make_folders(alloc, tree, number, moment)?;
-        match add_kept(
+        match push_job(
             alloc,
             &mut self.jobs,
             &mut self.sched,

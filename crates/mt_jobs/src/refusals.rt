@@ -91,7 +91,7 @@ impl<B> Jobs<B> {
 
     /// Whether lines may be posted to a job: `JobNotFound`, `JobState` where it is done or its input has ended, `TooManyInputs`
     /// where inputs and missing lines would be more than 1,000,000.
-    pub fn may_add(&self, job: u64, lines: &[InputLine]) -> Result<(), Refusal>
+    pub fn may_add_inputs(&self, job: u64, lines: &[InputLine]) -> Result<(), Refusal>
         ensures { result ≡ answer (job_refusal (job_at self.now job) (add_inputs_refusal lines.now)) }
     {
         match self.get(job) {
@@ -101,7 +101,7 @@ impl<B> Jobs<B> {
     }
 
     /// Whether the input of a job may end: `JobNotFound`, `JobState` where it is done or its input has ended.
-    pub fn may_end(&self, job: u64) -> Result<(), Refusal>
+    pub fn may_end_input(&self, job: u64) -> Result<(), Refusal>
         ensures { result ≡ answer (job_refusal (job_at self.now job) input_refusal) }
     {
         match self.get(job) {

@@ -6,10 +6,10 @@ use Rattle.jobs_rows.proofs.Stays.{not_refused, stays_made}
 use Rattle.jobs_rows.proofs.account.Account.make.Goals as goal
 
 pub invariant_of-account : goal.invariant_of-account
-invariant_of-account c = stays_made c.self.inside.position c.self.inside.tree c.self.inside.jobs c.self.invariant (subst (λ (s : State Body). s.count < MOST_COMMANDS) (sym c.self.view_is) c.requires.room) c.make.new.tree c.make.new.self c.args.document (1000 + c.self.inside.position) c.requires.document (not_refused _ (sym c.in-Ok.ensures)) c.in_ok-make-in-Ok.ensures
+invariant_of-account c = stays_made c.self.inside.position c.self.inside.tree c.self.inside.jobs c.self.invariant (subst (λ (s : State Body). s.count < MOST_COMMANDS) (sym c.self.view_is) c.requires.room) c.make_job.new.tree c.make_job.new.self c.args.document (1000 + c.self.inside.position) c.requires.document (not_refused _ (sym c.in-Ok.ensures)) c.in_ok-make_job-in-Ok.ensures
 
-pub make-requires-clause-rows : goal.make-requires-clause-rows
-make-requires-clause-rows c = c.self.invariant.rows
+pub make_job-requires-clause-rows : goal.make_job-requires-clause-rows
+make_job-requires-clause-rows c = c.self.invariant.rows
 
-pub make-requires-clause-jobs : goal.make-requires-clause-jobs
-make-requires-clause-jobs c = c.self.invariant.jobs
+pub make_job-requires-clause-jobs : goal.make_job-requires-clause-jobs
+make_job-requires-clause-jobs c = c.self.invariant.jobs

@@ -28,8 +28,8 @@ returns-in_default g c =
     let never : None ≡ Some it.job = sym none ∙ it.is in
     cc
 
-pub commit_kept-requires : goal.commit_kept-requires
-commit_kept-requires g c =
+pub commit_task-requires : goal.commit_task-requires
+commit_task-requires g c =
     let t = c.args.task.now in
     let kept = c.self.inside.jobs.items in
     let k = c.in-Some.at in
@@ -63,7 +63,7 @@ invariant_of-self g c =
     let lawful = all_at (LawfulJob c.args.position) c.args.self.now k old.job c.requires.jobs.each (ap (λ l. slice_get l k) (sym c.self.view_is) ∙ at_job kept k old it.there) in
     let h = c.in-Ok.ensures in
     jobs_changed (λ plan. grown (committed_in plan t.phase t.place) (t.phase + 1) (length (items_of h.entry.outcome)))
-    kept c.self.inside.sched c.commit_kept.new.sched c.self.inside.running.keys c.self.inside.done.keys k old c.commit_kept.new.kept c.self.invariant it.there h.kept
+    kept c.self.inside.sched c.commit_task.new.sched c.self.inside.running.keys c.self.inside.done.keys k old c.commit_task.new.kept c.self.invariant it.there h.kept
     (ap (λ j. j.number) h.job) (ap is_running h.job)
     (ap plan_of h.job ∙ plan_commit old.job h.entry lawful.sound ∙ ap (λ (e : TraceEntry g.row.B.Denot). grown (committed_in (plan_of old.job) e.phase e.place) (e.phase + 1) (length (items_of h.entry.outcome))) h.entry_is)
     h.plans_are
@@ -78,7 +78,7 @@ returns-in-Ok g c =
     let it = found_job t.job kept k old found c.index_mut.ensures.value in
     let job_is = ap (λ l. job_at l t.job) (sym c.self.view_is) ∙ it.job in
     let h = c.in-Ok.ensures in
-    commit_is c.args.position c.args.tree.now c.commit_kept.new.tree c.args.self.now _ t.job t.phase t.place c.args.fate.now c.args.moment old.job h.entry job_is h.entry_is h.rows_are
-    (jobs_written kept k c.commit_kept.new.kept
-    ∙ with_job_is old.job.number (with_entry h.entry) (jobs_in kept) k old.job c.commit_kept.new.kept.job c.self.invariant.rising (at_job kept k old it.there) refl h.job
+    commit_is c.args.position c.args.tree.now c.commit_task.new.tree c.args.self.now _ t.job t.phase t.place c.args.fate.now c.args.moment old.job h.entry job_is h.entry_is h.rows_are
+    (jobs_written kept k c.commit_task.new.kept
+    ∙ with_job_is old.job.number (with_entry h.entry) (jobs_in kept) k old.job c.commit_task.new.kept.job c.self.invariant.rising (at_job kept k old it.there) refl h.job
     ∙ ap (λ l. with_job l old.job.number (with_entry h.entry)) c.self.view_is)

@@ -14,9 +14,9 @@ invariant_of-self g c =
     let old = c.index_mut.result.now in
     let found = subst (λ l. IsFound c.args.job l (Some c.in-Some.place)) c.deref.ensures.value c.in-Some.ensures in
     let it = found_job c.args.job kept c.in-Some.place old found c.index_mut.ensures.value in
-    ended_either c.end_kept.result c.args.moment c.args.cancelled kept c.self.inside.sched c.end_kept.new.sched c.self.inside.running.keys c.end_kept.new.running.keys c.self.inside.done.keys c.end_kept.new.done.keys c.in-Some.place old c.end_kept.new.kept
-    c.self.invariant it.there c.end_kept.ensures.job c.end_kept.ensures.kept c.end_kept.ensures.sched c.end_kept.ensures.running c.end_kept.ensures.done
-    (on_err_weaker c.end_kept.result (λ same. (same.0, same.1, ap (λ s. s.keys) same.2, same.3)) c.end_kept.ensures.err)
+    ended_either c.mark_done.result c.args.moment c.args.cancelled kept c.self.inside.sched c.mark_done.new.sched c.self.inside.running.keys c.mark_done.new.running.keys c.self.inside.done.keys c.mark_done.new.done.keys c.in-Some.place old c.mark_done.new.kept
+    c.self.invariant it.there c.mark_done.ensures.job c.mark_done.ensures.kept c.mark_done.ensures.sched c.mark_done.ensures.running c.mark_done.ensures.done
+    (on_err_weaker c.mark_done.result (λ same. (same.0, same.1, ap (λ s. s.keys) same.2, same.3)) c.mark_done.ensures.err)
 
 pub returns-in-Some-clause-ok : goal.returns-in-Some-clause-ok
 returns-in-Some-clause-ok g c =
@@ -25,12 +25,12 @@ returns-in-Some-clause-ok g c =
     let change = done_at {B = g.row.B.Denot} c.args.moment c.args.cancelled in
     let found = subst (λ l. IsFound c.args.job l (Some c.in-Some.place)) c.deref.ensures.value c.in-Some.ensures in
     let it = found_job c.args.job kept c.in-Some.place old found c.index_mut.ensures.value in
-    on_ok_weaker c.end_kept.result
+    on_ok_weaker c.mark_done.result
     (λ ends.
-    jobs_written kept c.in-Some.place c.end_kept.new.kept
-    ∙ with_job_is c.args.job change (jobs_in kept) c.in-Some.place old.job c.end_kept.new.kept.job c.self.invariant.rising (at_job kept c.in-Some.place old it.there) it.number_is ends
+    jobs_written kept c.in-Some.place c.mark_done.new.kept
+    ∙ with_job_is c.args.job change (jobs_in kept) c.in-Some.place old.job c.mark_done.new.kept.job c.self.invariant.rising (at_job kept c.in-Some.place old it.there) it.number_is ends
     ∙ ap (λ l. with_job l c.args.job change) c.self.view_is)
-    c.end_kept.ensures.job
+    c.mark_done.ensures.job
 
 pub returns-in-None-clause-ok : goal.returns-in-None-clause-ok
 returns-in-None-clause-ok g c =

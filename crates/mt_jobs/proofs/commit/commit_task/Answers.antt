@@ -2,7 +2,7 @@ use Rattle.std.proofs.Common.{ap, ◌∙◌}
 use Rattle.mt_types.specs.declared.job.TraceEntry.{TraceEntry}
 use Rattle.mt_model.specs.Tasks.{is_ready}
 use Rattle.mt_jobs.proofs.Committed.{has_committed}
-use Rattle.mt_jobs.proofs.commit.commit_kept.Goals as goal
+use Rattle.mt_jobs.proofs.commit.commit_task.Goals as goal
 
 pub enter-requires-clause-ready : goal.enter-requires-clause-ready
 enter-requires-clause-ready g c =

@@ -14,7 +14,7 @@ use Rattle.mt_jobs.proofs.Changes.{at_job, jobs_changed, jobs_written}
 use Rattle.mt_jobs.proofs.Numbers.{found_job, found_none, with_job_is, with_no_job}
 use Rattle.mt_jobs.proofs.Posted.{KeepsRest, kept_posted, lines_rest}
 use Rattle.mt_jobs.proofs.States.{add_is}
-use Rattle.mt_jobs.proofs.jobs.Jobs.add.Goals as goal
+use Rattle.mt_jobs.proofs.jobs.Jobs.add_inputs.Goals as goal
 
 pub returns-in_default : goal.returns-in_default
 returns-in_default g c = λ position moment.

@@ -8,7 +8,7 @@ use Rattle.mt_sched.specs.Plans.{IsAbove}
 use Rattle.mt_jobs.specs.JobList.{jobs_in}
 use Rattle.mt_jobs.proofs.Added.{above_plans, all_below, jobs_pushed, jobs_with_new, small, unused}
 use Rattle.mt_jobs.proofs.States.{make_is}
-use Rattle.mt_jobs.proofs.jobs.Jobs.make.Goals as goal
+use Rattle.mt_jobs.proofs.jobs.Jobs.make_job.Goals as goal
 
 pub make_folders-requires-clause-folder : goal.make_folders-requires-clause-folder
 make_folders-requires-clause-folder g c =
@@ -20,8 +20,8 @@ make_folders-requires-clause-stor g c =
     let same : c.args.position * 4096 ≡ number_at c.args.position 0 = omega arith in
     ap (λ n. at c.args.tree.now (job_stor n)) same ∙ unused c.args.position c.args.tree.now c.args.self.now c.requires.jobs c.requires.room (codes "stor" ∷ [])
 
-pub add_kept-requires : goal.add_kept-requires
-add_kept-requires g c =
+pub push_job-requires : goal.push_job-requires
+push_job-requires g c =
     let kept = c.self.inside.jobs.items in
     let n : ℕ = number_at c.args.position 0 in
     let same : c.args.position * 4096 ≡ n = omega arith in
@@ -37,7 +37,7 @@ invariant_of-self g c =
     let same : c.args.position * 4096 ≡ n = omega arith in
     let made : c.in_ok-kept.kept.job ≡ new_job rows n c.args.document c.args.moment = c.in_ok-kept.ensures.job ∙ c.in_ok-new_job.ensures ∙ ap (λ m. new_job rows m c.args.document c.args.moment) same in
     let below : All (λ j. j.number < n) (jobs_in kept) = subst (All (λ j. j.number < n)) (sym c.self.view_is) (all_below c.args.position rows c.args.self.now c.requires.jobs c.requires.room) in
-    jobs_pushed rows n c.args.moment c.args.document kept c.add_kept.new.jobs.items c.self.inside.sched c.add_kept.new.sched c.self.inside.running.keys c.add_kept.new.running.keys c.self.inside.done.keys c.in_ok-kept.kept
+    jobs_pushed rows n c.args.moment c.args.document kept c.push_job.new.jobs.items c.self.inside.sched c.push_job.new.sched c.self.inside.running.keys c.push_job.new.running.keys c.self.inside.done.keys c.in_ok-kept.kept
     c.self.invariant c.in_ok-kept.ensures.kept made (small c.args.position rows c.args.self.now c.requires.jobs c.requires.room) below c.in-Ok.ensures.jobs c.in-Ok.ensures.sched c.in-Ok.ensures.running
 
 pub returns-in-Ok : goal.returns-in-Ok

@@ -4,7 +4,7 @@ use Rattle.mt_model.specs.JobSteps.{with_end}
 use Rattle.mt_sched.specs.Plans.{plan_at}
 use Rattle.mt_sched.specs.PlanOfJob.{plan_of}
 use Rattle.mt_jobs.proofs.Plans.{plan_ended}
-use Rattle.mt_jobs.proofs.inputs.end_kept.Goals as goal
+use Rattle.mt_jobs.proofs.inputs.end_input_of.Goals as goal
 
 pub open-requires-clause-plan : goal.open-requires-clause-plan
 open-requires-clause-plan g c =
