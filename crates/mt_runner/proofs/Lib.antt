@@ -5,6 +5,8 @@ pub mod Drains
 pub mod Engines
 pub mod Fills
 pub mod Lists
+pub mod Lived
+pub mod LivedOn
 pub mod Moved
 pub mod Pairs
 pub mod Progressing
@@ -15,3 +17,4 @@ pub mod Takes
 pub mod Tasks
 pub mod Turns
 pub mod Works
+pub mod Worlds

@@ -1,7 +1,6 @@
 -- What a turn does to a history.
-use Rattle.std.proofs.Common.{◌≡◌, ◌⊎◌, inl, inr, ℕ, ◌+◌, ◌<◌, ◌≤◌, Bool, true, false, List, [], ◌∷◌, ◌++◌, length, map, refl, ap, sym, subst, ◌∙◌, arith, Option, Some, None, ⊎_elim}
-use Rattle.std.specs.Prelude.{is_some}
-use Rattle.std.specs.List.{AllByRecursion}
+use Rattle.std.proofs.Common.{◌≡◌, inl, inr, ℕ, true, false, List, [], ◌∷◌, ◌++◌, map, eqb, refl, ap, sym, subst, ◌∙◌, Option, Some, None, ⊎_elim}
+use Rattle.std.specs.List.{AllByRecursion, IsDistinct}
 use Rattle.mt_base.specs.Lists.{IsPrefixOf}
 use Rattle.mt_disk.specs.CrashModel.{LeavesOnly, OnlyRead}
 use Rattle.mt_disk.specs.Files.{Files}
@@ -9,7 +8,6 @@ use Rattle.mt_disk.proofs.Moments.{joins}
 use Rattle.mt_types.specs.declared.command.Command.{Command}
 use Rattle.mt_types.specs.declared.command.Command.TheVariants.{Close, Commit}
 use Rattle.mt_types.specs.declared.job.Task.{Task}
-use Rattle.mt_types.specs.declared.limits.TheConstants.{MOST_COMMANDS}
 use Rattle.mt_types.specs.declared.task.Raw.{Raw}
 use Rattle.mt_types.specs.declared.task.Run.{Run}
 use Rattle.mt_model.specs.CommandStep.{replay}
@@ -17,29 +15,32 @@ use Rattle.mt_model.specs.Honest.{Bytes, IsHonest}
 use Rattle.mt_model.specs.Lawful.{Lawful}
 use Rattle.mt_model.specs.State.{State}
 use Rattle.mt_records.specs.Fate.{fate}
-use Rattle.mt_spawn.specs.Children.{MayBe, SameLive}
+use Rattle.mt_spawn.specs.Children.{MayBe}
 use Rattle.mt_spawn.specs.declared.task.Left.{Left}
 use Rattle.mt_engine.specs.Current.{EngineState, IsBetween, IsCurrent}
 use Rattle.mt_engine.specs.History.{History}
 use Rattle.mt_engine.specs.Ready.{EngineIsReady}
-use Rattle.mt_tasks.specs.Adding.{Added, Adds, IsCloseOf, IsCommitOf, IsFree, Lacked, LeavesEngine, MayHaveAdded}
+use Rattle.mt_tasks.specs.Adding.{Added, Adds, IsCloseOf, IsCommitOf, IsFree}
 use Rattle.mt_tasks.specs.Right.{IsRight, IsRightNow}
 use Rattle.mt_tasks.specs.Standing.{waiting}
 use Rattle.mt_tasks.specs.Taking.{TakesEnd, TakesOutcome}
 use Rattle.mt_tasks.specs.declared.outcomes.OutcomeEnd.{OutcomeEnd}
 use Rattle.mt_tasks.specs.declared.outcomes.OutcomeEnd.TheVariants as outcome
-use Rattle.mt_runner.specs.Attempts.{Attempt}
+use Rattle.mt_runner.specs.Attempts.{Attempt, number_of, started_of}
 use Rattle.mt_runner.specs.Attends.{Gone, Live, WorkSide, attempts_in}
 use Rattle.mt_runner.specs.AtWork.{AreRight}
 use Rattle.mt_runner.specs.Awaiting.{NoneCame}
 use Rattle.mt_runner.specs.Filling.{HasBegun}
-use Rattle.mt_runner.specs.Moves.{AddedNone, Due, IsDueAt, Moved, Moves, MovesOn, end_of_job, end_of_task}
+use Rattle.mt_runner.specs.Living.{LivesOn}
+use Rattle.mt_runner.specs.Moves.{Due, IsDueAt, Moves, MovesOn, end_of_job, end_of_task}
+use Rattle.mt_runner.specs.declared.runner.Started.{Started}
 use Rattle.mt_runner.specs.declared.turn.Turn.{Turn}
-use Rattle.mt_runner.specs.declared.turn.Turn.TheVariants as turn
 use Rattle.mt_runner.proofs.Crashes.{all_of, between_to}
 use Rattle.mt_runner.proofs.Lists.{all_both, all_but, all_last, all_more}
+use Rattle.mt_runner.proofs.Lived.{children_of, closed_so, gone_taken, lives_at, lives_then}
 use Rattle.mt_runner.proofs.Pairs.{are_those}
 use Rattle.mt_runner.proofs.Rights.{current_on, lawful_is, reads_between, rights_grow, rights_waited, waiting_is}
+use Rattle.mt_runner.proofs.Worlds.{IsChild}
 
 no_longer_open : {X : Type 0} (e : EngineState) → e.log.closed ≡ true → e.log.closed ≡ false → X
 no_longer_open e closed is_open = let no : true ≡ false = sym closed ∙ is_open in absurd (cc)
@@ -129,12 +130,14 @@ module _ {D F : Type 0} (seen : D → Option Files) (may_leave : D → Files →
       → OnlyRead seen may_leave moment left_since disk disk' → new.engine ≡ old.engine
       → ((base : State Bytes) (h : History) → IsCurrent (seen disk') old.engine base h → Moves (Due login runs now) end base h old.engine (seen disk') old.engine h)
       → ((base : State Bytes) (h : History) → IsCurrent (seen disk) old.engine base h → AreRight login runs may (replay base h) (attempts_in old) → AreRight login runs may (replay base h) (attempts_in new))
+      → ((base : State Bytes) (h : History) → IsCurrent (seen disk) old.engine base h → LivesOn login runs (fate login) end base h h old.kept new.kept)
       → MovesOn seen moment left_since login runs may now disk old end disk' new
-  moved_none disk old end disk' new only_now ready read same moves rights base h i r = record {
+  moved_none disk old end disk' new only_now ready read same moves rights lives base h i r = record {
     whole = h;
     moves = subst (λ (e : EngineState). Moves (Due login runs now) end base h old.engine (seen disk') e h) (sym same) (moves base h (current_on seen may_leave moment left_since disk disk' old.engine base h read i));
     leaves = reads_between seen may_leave moment left_since disk disk' old.engine base h only_now ready i read;
     right = λ is_open. rights base h i r;
+    lives = lives base h i;
   }
 
   -- by the answer, the attempts are right over what was added
@@ -159,9 +162,11 @@ module _ {D F : Type 0} (seen : D → Option Files) (may_leave : D → Files →
       → ((c : Files) → left_since disk (moment disk) c → may_leave disk c) → EngineIsReady seen may_leave disk old.engine → Lawful old.engine.state → waiting old.engine.state ≡ None
       → OnlyRead seen may_leave moment left_since disk disk1 → Gone ys x before mid → x.task ≡ t → MayBe (may x.fate) left told
       → ((base : State Bytes) (h : History) → IsCurrent (seen disk) old.engine base h → AreRight login runs may (replay base h) (attempts_in old) → AreRight login runs may (replay base h) ys)
-      → attempts_in new ≡ attempts_in mid → TakesOutcome seen moment left_since login runs may t now left told end disk1 old.engine disk' new.engine
+      → attempts_in new ≡ attempts_in mid → new.kept ≡ mid.kept → before.kept ≡ map started_of ys → IsDistinct eqb (map number_of before.kept)
+      → ((base : State Bytes) (h : History) → IsCurrent (seen disk) old.engine base h → LivesOn login runs (fate login) (end_of_task t end) base h h old.kept before.kept)
+      → TakesOutcome seen moment left_since login runs may t now left told end disk1 old.engine disk' new.engine
       → MovesOn seen moment left_since login runs may now disk old (end_of_task t end) disk' new
-  moved_task disk old before mid ys x t left told end disk1 disk' new only_now ready law none read g its given rights same takes base h i r =
+  moved_task disk old before mid ys x t left told end disk1 disk' new only_now ready law none read g its given rights same kept were tickets fills takes base h i r =
       let all : AreRight login runs may (replay base h) ys = rights base h i r in
       let one : IsRight login runs may (replay base h) t x.fate = subst (λ (u : Task). IsRight login runs may (replay base h) u x.fate) its (right_gone login runs may (replay base h) ys x before mid g all) in
       let took = takes base h (current_on seen may_leave moment left_since disk disk1 old.engine base h read i) x.fate one given in
@@ -174,19 +179,26 @@ module _ {D F : Type 0} (seen : D → Option Files) (may_leave : D → Files →
         leaves = joins moment left_since disk disk1 disk' (IsBetween base h h) (IsBetween base h took.0) (IsBetween base h took.0) first took.2 (λ c b. between_to base h h took.0 c front b) (λ c b. b);
         right = λ is_open. rights_added (IsCommitOf login runs t now) (λ s c q. q.is_free) end base h old.engine (seen disk') new.engine took.0 (lawful_is (seen disk) old.engine base h i law) took.1 (attempts_in new)
             (rights_at login runs may (replay base h) (attempts_in mid) (attempts_in new) same (rights_gone login runs may (replay base h) ys x before mid g all)) is_open;
+        lives = lives_then login runs (end_of_task t end) base h h took.0 old.kept before.kept new.kept (fills base h i)
+            (lives_at login runs (end_of_task t end) base h took.0 took.0 before.kept mid.kept before.kept new.kept refl refl kept
+            (gone_taken login runs base h ys x before mid g before.kept were tickets may all t now left told end old.engine (seen disk') new.engine took.0 its (lawful_is (seen disk) old.engine base h i law) given took.1));
       }
 
   -- a turn behind the end of a job
   pub moved_job : (disk : D) (old : WorkSide F) (n : ℕ) (end : OutcomeEnd) (disk' : D) (new : WorkSide F) → Lawful old.engine.state → waiting old.engine.state ≡ Some n → (end ≡ outcome.Unread → ⊥)
-      → ((base : State Bytes) (h : History) → AreRight login runs may (replay base h) (attempts_in old) → AreRight login runs may (replay base h) (attempts_in new))
+      → ((base : State Bytes) (h : History) → AreRight login runs may (replay base h) (attempts_in old) → AreRight login runs may (replay base h) (attempts_in new)) → new.kept ≡ map started_of (attempts_in new)
+      → ((base : State Bytes) (h : History) → IsCurrent (seen disk) old.engine base h → AreRight login runs may (replay base h) (attempts_in old) → LivesOn login runs (fate login) (end_of_job n end) base h h old.kept new.kept)
       → TakesEnd seen moment left_since login n now end disk old.engine disk' new.engine → MovesOn seen moment left_since login runs may now disk old (end_of_job n end) disk' new
-  moved_job disk old n end disk' new law some read rights takes base h i r =
+  moved_job disk old n end disk' new law some read rights kept drops takes base h i r =
       let took = takes base h i in
       record {
         whole = took.0;
         moves = moves_job login runs now base h old.engine (seen disk') new.engine took.0 n end read (waiting_is (seen disk) old.engine base h i ∙ some) took.1;
         leaves = took.2;
         right = λ is_open. rights_added (IsCloseOf login n now) (λ s c q. q.is_free) end base h old.engine (seen disk') new.engine took.0 (lawful_is (seen disk) old.engine base h i law) took.1 (attempts_in new) (rights base h r) is_open;
+        lives = lives_then login runs (end_of_job n end) base h h took.0 old.kept new.kept new.kept (drops base h i r)
+            (closed_so login runs n now end base h old.engine (seen disk') new.engine took.0 new.kept read (lawful_is (seen disk) old.engine base h i law)
+            (subst (λ (ks : List Started). AllByRecursion (IsChild login runs (fate login) (replay base h)) ks) (sym kept) (children_of login runs may (replay base h) (attempts_in new) (rights base h r))) took.1);
       }
 
 -- the same at an equal rule and login
@@ -205,8 +217,9 @@ ends_at {D} seen moment left_since login login' n now end disk e disk' e' el tak
 pub moved_from : {D F R : Type 0} (seen : D → Option Files) (moment : D → ℕ) (left_since : D → ℕ → Files → Type 0) (gives : R → Run → Bytes → Raw → Type 0) (may : R → F → Raw → Type 0) (r r' : R) (login login' : Bytes) (now : ℕ)
     (disk : D) (old mid : WorkSide F) (end : Turn) (disk' : D) (new : WorkSide F) → r' ≡ r → login' ≡ login → mid.engine ≡ old.engine
     → ((s : State Bytes) → AreRight login (gives r) (may r) s (attempts_in old) → AreRight login (gives r) (may r) s (attempts_in mid))
+    → ((base : State Bytes) (h : History) → IsCurrent (seen disk) old.engine base h → AreRight login (gives r) (may r) (replay base h) (attempts_in old) → LivesOn login (gives r) (fate login) end base h h old.kept mid.kept)
     → MovesOn seen moment left_since login' (gives r') (may r') now disk mid end disk' new → MovesOn seen moment left_since login (gives r) (may r) now disk old end disk' new
-moved_from {D} {F} {R} seen moment left_since gives may r r' login login' now disk old mid end disk' new er el same rights moves base h i right =
+moved_from {D} {F} {R} seen moment left_since gives may r r' login login' now disk old mid end disk' new er el same rights drops moves base h i right =
     let at : MovesOn seen moment left_since login (gives r) (may r) now disk mid end disk' new =
     subst (λ (l : Bytes). MovesOn seen moment left_since l (gives r) (may r) now disk mid end disk' new) el
     (subst (λ (q : R). MovesOn seen moment left_since login' (gives q) (may q) now disk mid end disk' new) er moves) in
@@ -216,4 +229,5 @@ moved_from {D} {F} {R} seen moment left_since gives may r r' login login' now di
       moves = subst (λ (e : EngineState). Moves (Due login (gives r) now) end base h e (seen disk') new.engine m.whole) same m.moves;
       leaves = m.leaves;
       right = m.right;
+      lives = lives_then login (gives r) end base h h m.whole old.kept mid.kept new.kept (drops base h i right) m.lives;
     }

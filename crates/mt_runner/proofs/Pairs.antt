@@ -1,5 +1,5 @@
 -- Two lists that are seen as one.
-use Rattle.std.proofs.Common.{◌≡◌, ◌==◌, ℕ, suc, ◌+◌, ◌≤◌, Bool, true, false, not, cond, List, [], ◌∷◌, ◌++◌, length, map, refl, ap, sym, subst, ◌∙◌, eqb}
+use Rattle.std.proofs.Common.{◌≡◌, ◌==◌, ℕ, suc, Bool, true, false, not, cond, List, [], ◌∷◌, ◌++◌, length, map, refl, ap, sym, subst, ◌∙◌}
 use Rattle.std.specs.Prelude.{filter}
 use Rattle.std.proofs.lemmas.List.{map-append}
 use Rattle.mt_types.specs.declared.job.Task.{Task}
@@ -8,7 +8,7 @@ use Rattle.mt_runner.specs.Attempts.{AreOf, ArePaired, Attempt, attempts, child_
 use Rattle.mt_runner.specs.Stale.{is_other_child}
 use Rattle.mt_runner.specs.declared.runner.Started.{Started}
 
-filter-map : {X Y : Type 0} (p : Y → Bool) (f : X → Y) (xs : List X) → filter p (map f xs) ≡ map f (filter (λ x. p (f x)) xs)
+pub filter-map : {X Y : Type 0} (p : Y → Bool) (f : X → Y) (xs : List X) → filter p (map f xs) ≡ map f (filter (λ x. p (f x)) xs)
 filter-map p f [] = refl
 filter-map {X} {Y} p f (x ∷ xs) = by (p (f x)) (filter p (map f xs)) (filter (λ x. p (f x)) xs) (filter-map p f xs)
   where

@@ -1,5 +1,5 @@
 -- One turn: how the account goes on, what a crash leaves, and what is at work behind it.
-use Rattle.std.proofs.Common.{◌≡◌, ◌≢◌, ◌⊎◌, inl, inr, ℕ, ◌+◌, ◌<◌, ◌≤◌, Bool, true, false, List, [], ◌∷◌, ◌++◌, length, refl, ap, sym, subst, ◌∙◌, arith, length-append, Option, Some, None, ⊎_elim}
+use Rattle.std.proofs.Common.{◌≡◌, inl, inr, ℕ, ◌+◌, ◌≤◌, Bool, true, false, List, [], ◌∷◌, ◌++◌, length, refl, ap, sym, subst, ◌∙◌, arith, length-append, Option, Some, None, ⊎_elim}
 use Rattle.std.specs.Prelude.{is_some}
 use Rattle.mt_base.specs.Counts.{NeverFell, Rose}
 use Rattle.mt_base.specs.Lists.{IsPrefixOf}
@@ -8,17 +8,18 @@ use Rattle.mt_disk.specs.Files.{Files}
 use Rattle.mt_types.specs.declared.command.Command.{Command}
 use Rattle.mt_types.specs.declared.task.Raw.{Raw}
 use Rattle.mt_types.specs.declared.task.Run.{Run}
-use Rattle.mt_model.specs.CommandStep.{replay}
 use Rattle.mt_model.specs.Honest.{Bytes}
 use Rattle.mt_model.specs.State.{State}
-use Rattle.mt_engine.specs.Current.{EngineState, HasNearly, IsBetween, IsCurrent, Over, Serves, told_size}
+use Rattle.mt_records.specs.Fate.{fate}
+use Rattle.mt_engine.specs.Current.{EngineState, IsBetween, IsCurrent, Over, Serves, told_size}
 use Rattle.mt_engine.specs.History.{HasHistory, History}
-use Rattle.mt_engine.specs.Ready.{EngineGoesOn, EngineIsReady}
+use Rattle.mt_engine.specs.Ready.{EngineGoesOn}
 use Rattle.mt_runner.specs.Attempts.{Attempt}
 use Rattle.mt_runner.specs.Account.{AccountSide, NoCountFell, account_side, asked_again, tasks_of, told_time}
 use Rattle.mt_runner.specs.Attends.{WorkSide, attempts_in}
-use Rattle.mt_runner.specs.AtWork.{AreRight, AreRightNow}
+use Rattle.mt_runner.specs.AtWork.{AreRightNow}
 use Rattle.mt_runner.specs.ByAnswer.{GoesOn}
+use Rattle.mt_runner.specs.Living.{LivesTo}
 use Rattle.mt_runner.specs.Moves.{Due, Moves, MovesOn}
 use Rattle.mt_runner.specs.Progress.{Progress, Progressed}
 use Rattle.mt_runner.specs.Turning.{TakesTurn, TurnImages, Working, working_of}
@@ -188,6 +189,21 @@ module _ {D F : Type 0} (seen : D → Option Files) (may_leave : D → Files →
 
         fails_by : (t : Turn) → Progress slots old.engine.state old t new → t ≡ turn.Disk → Rose old.disk_faults new.disk_faults
         fails_by t p is = let q : Progress slots old.engine.state old turn.Disk new = subst (λ (u : Turn). Progress slots old.engine.state old u new) is p in q.0
+
+    -- and that it is a list of steps of a life
+    pub lived : (base : State Bytes) (h : History) → IsCurrent (seen disk) old.engine base h
+        → LivesTo login runs (fate login) seen may_leave moment left_since disk disk' new.engine end base h old.kept new.kept
+    lived base h i =
+        let m = moves base h i (right base h i) in
+        record {
+          whole = m.whole;
+          lives = m.lives;
+          grew = front_by (Due login runs now) base h old.engine (seen disk') new.engine m.whole end m.moves;
+          current = λ still. current_by (Due login runs now) base h old.engine (seen disk') new.engine m.whole end m.moves still;
+          images = images_by seen may_leave moment left_since disk disk' (Due login runs now) base h old.engine new.engine m.whole end counts_now m.moves m.leaves
+              (λ g c still image. there base m.whole c (current_by (Due login runs now) base h old.engine (seen disk') new.engine m.whole end m.moves still) image) opened;
+          leaves = m.leaves;
+        }
 
     pub went : (base : State Bytes) (h : History) → Over (seen disk) old.engine base h → Went base h
     went base h over = by (is_some (seen disk)) refl

@@ -1,31 +1,29 @@
 -- What the work of a turn did to children, slots and the state.
-use Rattle.std.proofs.Common.{◌≡◌, ◌==◌, ◌⊎◌, inl, inr, ℕ, suc, ◌+◌, ◌<◌, ◌≤◌, min, Bool, true, false, List, [], ◌∷◌, ◌++◌, length, map, refl, ap, sym, subst, ◌∙◌, eqb, arith, append-nil, Option, Some, None}
+use Rattle.std.proofs.Common.{◌≡◌, ◌==◌, ◌⊎◌, inl, inr, ℕ, ◌+◌, ◌<◌, ◌≤◌, min, Bool, true, false, List, [], ◌∷◌, ◌++◌, length, map, refl, ap, sym, subst, ◌∙◌, eqb, arith, Option, Some, None}
 use Rattle.std.specs.Prelude.{is_some, ◌||◌}
-use Rattle.std.specs.List.{AllByRecursion, AllZip, IsDistinct, list_any}
+use Rattle.std.specs.List.{AllByRecursion, AllZip, IsDistinct}
 use Rattle.std.proofs.lemmas.List.{length-map}
-use Rattle.mt_base.specs.Counts.{NeverFell, Rose, RoseBy}
+use Rattle.mt_base.specs.Counts.{NeverFell, Rose}
 use Rattle.mt_types.specs.declared.body.Body.{Body}
 use Rattle.mt_types.specs.declared.job.Task.{Task}
 use Rattle.mt_types.specs.declared.task.Raw.{Raw}
 use Rattle.mt_model.specs.Lawful.{Lawful}
 use Rattle.mt_model.specs.State.{State}
-use Rattle.mt_spawn.specs.Children.{Child, SameCounts, SameLive, Seen}
+use Rattle.mt_spawn.specs.Children.{Child, SameCounts, SameLive}
 use Rattle.mt_spawn.specs.declared.task.Left.{Left}
 use Rattle.mt_sched.specs.Plan.{first_but, has_task, is_same_task}
 use Rattle.mt_sched.proofs.Ready.{ready_tasks_are_apart, ready_tasks_are_ready}
-use Rattle.mt_engine.specs.Current.{EngineState}
 use Rattle.mt_tasks.specs.Standing.{is_ready_in, ready_tasks, waiting}
 use Rattle.mt_tasks.specs.Adding as adding
 use Rattle.mt_tasks.specs.declared.outcomes.OutcomeEnd.{OutcomeEnd}
 use Rattle.mt_tasks.specs.declared.outcomes.OutcomeEnd.TheVariants as outcome
-use Rattle.mt_runner.specs.Attempts.{AreFirsts, AreOf, Attempt, HasWaited, attempts, number_of, task_in, the_task, the_ticket}
-use Rattle.mt_runner.specs.Attends.{AreApart, AreMany, Attends, Ended, Finishes, Gone, Live, Lost, NothingReady, SameOrClosed, Stopped, Took, Tried, Unheard, Waiting, WorkSide, Works, attempts_in, is_ready_now, ready_of, work_side}
+use Rattle.mt_runner.specs.Attempts.{AreFirsts, AreOf, Attempt, HasWaited, attempts, number_of, task_in, the_task}
+use Rattle.mt_runner.specs.Attends.{AreApart, AreMany, Attends, Ended, Finishes, Live, Lost, NothingReady, Stopped, Tried, Waiting, WorkSide, Works, attempts_in, is_ready_now, ready_of}
 use Rattle.mt_runner.specs.Awaiting.{HasCome, NoneCame}
 use Rattle.mt_runner.specs.Filling.{HasBegun}
 use Rattle.mt_runner.specs.Moves.{end_of_job, end_of_task}
 use Rattle.mt_runner.specs.declared.runner.Started.{Started}
 use Rattle.mt_runner.specs.declared.turn.Turn.{Turn}
-use Rattle.mt_runner.specs.declared.turn.Turn.TheVariants as turn
 use Rattle.mt_runner.proofs.Lists.{all_both, all_last, all_passed}
 use Rattle.mt_runner.proofs.Pairs.{are_those, kept_length, tasks_of, tickets_of}
 use Rattle.mt_runner.proofs.Stales.{counts_on}
@@ -48,7 +46,7 @@ min_slots : (slots n m : ℕ) → m ≤ n → m ≡ slots → m ≡ min slots n
 min_slots slots n m a b = omega arith
 
 module _ {F : Type 0} (s : State Body) (law : Lawful s) where
-  firsts_ready : (skip : List Task) (xs : List (Attempt F)) → AreFirsts (ready_tasks s) skip xs → AllByRecursion (λ x. is_ready_now s x ≡ true) xs
+  pub firsts_ready : (skip : List Task) (xs : List (Attempt F)) → AreFirsts (ready_tasks s) skip xs → AllByRecursion (λ x. is_ready_now s x ≡ true) xs
   firsts_ready skip [] f = tt
   firsts_ready skip (x ∷ xs) f = (sym (ready_tasks_are_ready s.jobs law.jobs.rising x.task) ∙ next_there skip (ready_tasks s) x.task f.0, firsts_ready (skip ++ x.task ∷ []) xs f.2)
 

@@ -5,6 +5,7 @@ pub mod Attends
 pub mod Awaiting
 pub mod ByAnswer
 pub mod Filling
+pub mod Living
 pub mod Moves
 pub mod Progress
 pub mod Stale

@@ -1,5 +1,5 @@
 -- What a turn does to a history, over one base.
-use Rattle.std.specs.Prelude.{◌≡◌, ◌⊎◌, ℕ, false, true, List, [], ◌∷◌, Option, None, Some}
+use Rattle.std.specs.Prelude.{◌≡◌, ◌⊎◌, ℕ, false, true, [], ◌∷◌, Option, None, Some}
 use Rattle.mt_disk.specs.CrashModel.{LeavesOnly}
 use Rattle.mt_disk.specs.Files.{Files}
 use Rattle.mt_types.specs.declared.command.Command.{Command}
@@ -22,6 +22,7 @@ use Rattle.mt_tasks.specs.declared.outcomes.OutcomeEnd.{OutcomeEnd}
 use Rattle.mt_tasks.specs.declared.outcomes.OutcomeEnd.TheVariants as outcome
 use Rattle.mt_runner.specs.Attends.{WorkSide, attempts_in}
 use Rattle.mt_runner.specs.AtWork.{AreRight}
+use Rattle.mt_runner.specs.Living.{LivesOn}
 use Rattle.mt_runner.specs.Turning.{ClosesJob, CommitsTask}
 use Rattle.mt_runner.specs.declared.turn.Turn.{Turn}
 use Rattle.mt_runner.specs.declared.turn.Turn.TheVariants as turn
@@ -69,13 +70,15 @@ end_of_job n outcome.Unread = turn.Memory
 end_of_job n outcome.Disk = turn.Disk
 end_of_job n outcome.Memory = turn.Memory
 
--- over each history that the engine stands for: what a turn adds, what a crash leaves, and that the attempts stay right
+-- over each history that the engine stands for: what a turn adds, what a crash leaves, that the attempts stay right, and that it is a list
+-- of steps of a life
 module _ {D F : Type 0} (seen : D → Option Files) (moment : D → ℕ) (left_since : D → ℕ → Files → Type 0) (login : Bytes) (runs : Run → Bytes → Raw → Type 0) (may : F → Raw → Type 0) (now : ℕ) where
   pub record Moved (disk : D) (old : WorkSide F) (end : Turn) (disk' : D) (new : WorkSide F) (base : State Bytes) (h : History) : Type 0 where
     pub whole : History
     pub moves : Moves (Due login runs now) end base h old.engine (seen disk') new.engine whole
     pub leaves : LeavesOnly moment left_since disk disk' (IsBetween base h whole)
     pub right : new.engine.log.closed ≡ false → AreRight login runs may (replay base whole) (attempts_in new)
+    pub lives : LivesOn login runs (fate login) end base h whole old.kept new.kept
 
   abbrev pub MovesOn : D → WorkSide F → Turn → D → WorkSide F → Type 0
   MovesOn disk old end disk' new =

@@ -3,18 +3,22 @@ ghost use Rattle.std.specs.Prelude.{◌≡◌, ◌+◌, ◌++◌, ℕ, Bool, Lis
 ghost use Rattle.std.specs.List.{flat_map};
 ghost use Rattle.mt_base.specs.Lists.{IsPrefixOf};
 ghost use Rattle.mt_disk.specs.Files.{Files};
+ghost use Rattle.mt_lives.specs.World.{LifeStep, Steps, ValidWorld, World};
 ghost use Rattle.mt_model.specs.CommandStep.{replay};
 ghost use Rattle.mt_model.specs.Honest.{HonestFrom};
 ghost use Rattle.mt_model.specs.State.{State};
 ghost use Rattle.mt_records.specs.Fate.{fate};
-ghost use Rattle.mt_spawn.specs.Children.{Seen};
+ghost use Rattle.mt_spawn.specs.Children.{Child, Seen};
 ghost use Rattle.mt_spawn.specs.declared.task.Left.{Left};
 ghost use Rattle.mt_engine.specs.Current.{EngineState, IsCurrent, Over, Serves};
 ghost use Rattle.mt_engine.specs.History.{Bytes, History};
 ghost use Rattle.mt_runner.specs.Account.{AccountSide};
-ghost use Rattle.mt_runner.specs.Attempts.{Attempt, RunnerState};
+ghost use Rattle.mt_runner.specs.Attempts.{ArePaired, Attempt, RunnerState, attempts};
 ghost use Rattle.mt_runner.specs.AtWork.{AreRight, AtWork};
+ghost use Rattle.mt_runner.specs.Living.{AreAttempts, Leads};
 ghost use Rattle.mt_runner.specs.Turning.{Follow, Led, MayTurn, TurnTaken, added_of, companies, working_of};
+ghost use Rattle.mt_runner.specs.declared.runner.Started.{Started};
+ghost use Rattle.mt_runner.specs.declared.turn.Turn.{Turn};
 
 use mt_edge::Clock;
 use mt_spawn::Spawner;
@@ -57,4 +61,18 @@ pub fn led_on<P: Spawner, C: Clock>()
         → Led (working_of knows (C.gives clock) (P.gives children) login slots limit base) old ts mid
         → Led (working_of knows (C.gives clock) (P.gives children) login slots limit base) mid us new
         → Led (working_of knows (C.gives clock) (P.gives children) login slots limit base) old (ts ++ us) new }
+{}
+
+/// What a turn or a drain may do is steps of a life, so a valid world leads to a valid one: no two attempts are at one task, each is run
+/// with and reads what its task does, and the history stays honest.
+pub fn turns_are_steps<P: Spawner>()
+    ensures steps { (rule : P.Rule) (login : Bytes) (end : Turn) (w : World) (steps : List LifeStep) (v : World) → Leads login (P.gives rule) (fate login) end w steps v → Steps login (P.gives rule) (fate login) w steps v }
+    ensures valid { (rule : P.Rule) (login : Bytes) (end : Turn) (w : World) (steps : List LifeStep) (v : World) → Leads login (P.gives rule) (fate login) end w steps v → ValidWorld login (P.gives rule) (fate login) w
+        → ValidWorld login (P.gives rule) (fate login) v }
+{}
+
+/// Where a runner is at work, each child that it keeps is an attempt, under its ticket and at its task.
+pub fn children_are_attempts<P: Spawner>()
+    ensures { (rule : P.Rule) (login : Bytes) (s : State Bytes) (kept : List Started) (live : List (Child P.Fate)) → ArePaired kept live → AreRight login (P.gives rule) (P.may rule) s (attempts kept live)
+        → AreAttempts login (P.gives rule) (fate login) s kept }
 {}

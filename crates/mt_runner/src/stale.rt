@@ -2,9 +2,11 @@
 ghost use Rattle.std.specs.Prelude.{◌≡◌, [], eqb, filter, map};
 ghost use Rattle.std.specs.List.{IsDistinct};
 ghost use Rattle.mt_base.specs.Counts.{NeverFell};
+ghost use Rattle.mt_records.specs.Fate.{fate};
 ghost use Rattle.mt_spawn.specs.Children.{SameCounts};
 ghost use Rattle.mt_runner.specs.Attempts.{AreOf, ArePaired, attempts, number_of};
 ghost use Rattle.mt_runner.specs.Attends.{ready_of};
+ghost use Rattle.mt_runner.specs.Living.{LosesAll};
 ghost use Rattle.mt_runner.specs.Stale.{FirstKept, FirstStale, is_other_child};
 
 use crate::runner::{Runner, Started};
@@ -65,6 +67,8 @@ impl Runner {
     pub fn stop<P: Spawner>(&mut self, spawner: &mut P)
         requires paired { ArePaired self.old.kept (P.seen spawner.old).live }
         ensures none { (P.seen spawner.new).live ≡ [] }
+        // In each world each of them is lost.
+        ensures lives { LosesAll self.old.login (P.gives (P.rule spawner.old)) (fate self.old.login) self.old.kept self.new.kept }
         ensures kept { self.new.kept ≡ [] }
         ensures counts { SameCounts (P.seen spawner.old) (P.seen spawner.new) }
         ensures faults { NeverFell (P.seen spawner.old).faults (P.seen spawner.new).faults }

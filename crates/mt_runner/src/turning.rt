@@ -11,12 +11,14 @@ ghost use Rattle.mt_engine.specs.Ready.{EngineGoesOn, EngineIsReady};
 ghost use Rattle.mt_model.specs.CommandStep.{replay};
 ghost use Rattle.mt_model.specs.Lawful.{Lawful};
 ghost use Rattle.mt_model.specs.State.{State};
+ghost use Rattle.mt_records.specs.Fate.{fate};
 ghost use Rattle.mt_tasks.specs.Standing.{is_ready_in, ready_tasks, waiting};
 ghost use Rattle.mt_runner.specs.Account.{account_side, asked_again, tasks_of, told_time};
 ghost use Rattle.mt_runner.specs.Attempts.{ArePaired, Attempt, attempts};
 ghost use Rattle.mt_runner.specs.Attends.{Attends, Finishes, Works, is_ready_now, work_side};
 ghost use Rattle.mt_runner.specs.AtWork.{AtWork};
 ghost use Rattle.mt_runner.specs.ByAnswer.{Company, GoesOn, HasTicket, IsLoss, OneFewer};
+ghost use Rattle.mt_runner.specs.Living.{LivesTo};
 ghost use Rattle.mt_runner.specs.Moves.{MovesOn, end_of_job, end_of_task};
 ghost use Rattle.mt_runner.specs.Progress.{Progressed};
 ghost use Rattle.mt_runner.specs.Turning.{Drained, TakesTurn, TurnImages, working_of};
@@ -141,6 +143,7 @@ impl Runner {
         ensures slots { self.new.slots ≡ self.old.slots }
         ensures login { self.new.login ≡ self.old.login }
     {
+        self.holds();
         self.drop_stale(engine, spawner);
         let Some(job) = engine.jobs().waits_finish() else {
             return self.work(alloc, engine, disk, spawner, now, patient);
@@ -175,6 +178,9 @@ impl Runner {
             × (engine.new.log.closed ≡ false → Over (D.seen disk.new) engine.new base k) × IsPrefixOf h k
             × (is_some (D.seen disk.old) ≡ true → TurnImages result base k (D.may_leave disk.new))
             × (is_some (D.seen disk.old) ≡ true → LeavesOnly D.moment D.left_since disk.old disk.new (IsBetween base h k)) }
+        // Over each base and history: it is a list of steps of a life, and a crash at any moment leaves what some of them lead to.
+        ensures lives { (base : State Bytes) (h : History) → IsCurrent (D.seen disk.old) engine.old base h
+            → LivesTo self.old.login (P.gives (P.rule spawner.old)) (fate self.old.login) D.seen D.may_leave D.moment D.left_since disk.old disk.new engine.new result base h self.old.kept self.new.kept }
         ensures at_work { AtWork (P.may (P.rule spawner.new)) (P.gives (P.rule spawner.new)) (P.seen spawner.new) (P.held spawner.new) self.new (D.seen disk.new) engine.new }
         ensures goes_on { EngineGoesOn D.seen D.may_leave D.faults disk.old disk.new engine.old engine.new }
         ensures open { GoesOn result engine.new.log.closed }
@@ -214,6 +220,9 @@ impl Runner {
             × (engine.new.log.closed ≡ false → Over (D.seen disk.new) engine.new base k) × IsPrefixOf h k
             × (is_some (D.seen disk.old) ≡ true → TurnImages result base k (D.may_leave disk.new))
             × (is_some (D.seen disk.old) ≡ true → LeavesOnly D.moment D.left_since disk.old disk.new (IsBetween base h k)) }
+        // Over each base and history: it is a list of steps of a life, and a crash at any moment leaves what some of them lead to.
+        ensures lives { (base : State Bytes) (h : History) → IsCurrent (D.seen disk.old) engine.old base h
+            → LivesTo self.old.login (P.gives (P.rule spawner.old)) (fate self.old.login) D.seen D.may_leave D.moment D.left_since disk.old disk.new engine.new result base h self.old.kept self.new.kept }
         ensures at_work { AtWork (P.may (P.rule spawner.new)) (P.gives (P.rule spawner.new)) (P.seen spawner.new) (P.held spawner.new) self.new (D.seen disk.new) engine.new }
         ensures goes_on { EngineGoesOn D.seen D.may_leave D.faults disk.old disk.new engine.old engine.new }
         ensures open { GoesOn result engine.new.log.closed }

@@ -1,10 +1,11 @@
 -- Turns went on, one after another.
-use Rattle.std.proofs.Common.{◌≡◌, ◌∙◌, [], ℕ, ◌+◌, refl, sym, arith, true}
+use Rattle.std.proofs.Common.{◌∙◌, [], refl, sym, arith}
 use Rattle.std.specs.Prelude.{is_some}
 use Rattle.mt_engine.specs.Current.{told_size}
 use Rattle.mt_runner.specs.Account.{account_side, tasks_of, told_time}
 use Rattle.mt_runner.proofs.Crashes.{all_of, unmoved}
-use Rattle.mt_runner.proofs.Drains.{SoFar, Took, at_setting, goes_on_more, led_none, open_more, so_ends, so_more}
+use Rattle.mt_runner.proofs.Drains.{Took, at_setting, goes_on_more, led_none, open_more, so_ends, so_more}
+use Rattle.mt_runner.proofs.LivedOn.{lived_at, lived_more, lived_none, lived_on}
 use Rattle.mt_runner.proofs.runner.Runner.drain.Goals as goal
 
 pub turns-init : goal.turns-init
@@ -20,6 +21,7 @@ turns-init g c =
         all_of h,
         (λ kn. unmoved d.seen d.may_leave d.moment d.left_since c.args.disk.now c.args.engine.now base h (g.met.D.Disk.only_now c.args.disk.now) c.requires.ready.stands c.requires.ready.is_open over kn),
       );
+      lived = λ base h i. lived_none d.seen d.may_leave d.moment d.left_since c.args.self.now.login (g.P.Spawner.gives (g.P.Spawner.rule c.args.spawner.now)) c.args.disk.now c.args.engine.now base h c.args.self.now.kept (g.met.D.Disk.only_now c.args.disk.now) c.requires.ready i;
       ready = c.requires.ready;
       at_work = c.requires.at_work;
       told = refl;
@@ -53,6 +55,12 @@ turns-preserved g c =
           (account_side s.0 (told_size (d.seen c.turns.disk) c.turns.engine) (d.faults c.turns.disk) (told_time b (d.moment c.turns.disk)) (k.asked c.turns.clock) (tasks_of (p.seen c.turns.spawner)))
           (λ m. account_side m (told_size (d.seen new.disk) new.engine) (d.faults new.disk) (told_time b (d.moment new.disk)) (k.asked new.clock) (tasks_of (p.seen new.spawner))))
           _ _ _ _ _ _ _ _ _ _ _ _ i.told i.moments i.children i.login i.slots i.limit (e.takes base s.0 s.4));
+      lived = λ base h now.
+          let a = i.lived base h now in
+          lived_on d.seen d.may_leave d.moment d.left_since c.args.self.now.login (p.gives (p.rule c.args.spawner.now)) c.args.disk.now c.turns.disk new.disk c.turns.engine new.engine base h
+          c.args.self.now.kept c.turns.self.kept new.self.kept a c.turn-turn.result (grind arith)
+          (lived_at d.seen d.may_leave d.moment d.left_since p.gives (p.rule c.args.spawner.now) (p.rule c.turns.spawner) c.args.self.now.login c.turns.self.login c.turns.disk new.disk new.engine c.turn-turn.result base a.whole c.turns.self.kept new.self.kept i.children i.login
+          (e.lives base a.whole (a.current i.ready.is_open)));
       ready = record { stands = e.goes_on.stands; is_open = still; version = e.goes_on.stays.version still ∙ i.ready.version; serves = e.goes_on.serves };
       at_work = e.at_work;
       told = e.goes_on.stays.told still ∙ i.told;
@@ -83,6 +91,19 @@ returns-then-left-eq0-clause-takes g c base h over =
     (account_side s.0 (told_size (d.seen c.turns.disk) c.turns.engine) (d.faults c.turns.disk) (told_time b (d.moment c.turns.disk)) (k.asked c.turns.clock) (tasks_of (p.seen c.turns.spawner)))
     (λ m. account_side m (told_size (d.seen new.disk) new.engine) (d.faults new.disk) (told_time b (d.moment new.disk)) (k.asked new.clock) (tasks_of (p.seen new.spawner))))
     _ _ _ _ _ _ _ _ _ _ _ _ i.told i.moments i.children i.login i.slots i.limit (e.takes base s.0 s.4))
+
+pub returns-then-left-eq0-clause-lives : goal.returns-then-left-eq0-clause-lives
+returns-then-left-eq0-clause-lives g c base h now =
+    let d = g.D.Disk in
+    let p = g.P.Spawner in
+    let i = c.turns.invariant in
+    let e = c.turn-turn.ensures in
+    let new = c.turn-turn.new in
+    let a = i.lived base h now in
+    lived_more d.seen d.may_leave d.moment d.left_since c.args.self.now.login (p.gives (p.rule c.args.spawner.now)) c.args.disk.now c.turns.disk new.disk c.turns.engine new.engine base h
+    c.args.self.now.kept c.turns.self.kept new.self.kept a c.turn-turn.result
+    (lived_at d.seen d.may_leave d.moment d.left_since p.gives (p.rule c.args.spawner.now) (p.rule c.turns.spawner) c.args.self.now.login c.turns.self.login c.turns.disk new.disk new.engine c.turn-turn.result base a.whole c.turns.self.kept new.self.kept i.children i.login
+    (e.lives base a.whole (a.current i.ready.is_open)))
 
 pub returns-then-left-eq0-clause-goes_on : goal.returns-then-left-eq0-clause-goes_on
 returns-then-left-eq0-clause-goes_on g c =

@@ -1,14 +1,17 @@
 -- Turns so far, each of which added a command, lead from each history that the engine stood for to here.
-use Rattle.std.proofs.Common.{◌≡◌, ◌<◌, ◌≤◌, false}
+use Rattle.std.proofs.Common.{◌≡◌, ◌<◌}
 use Rattle.std.specs.Prelude.{is_some}
 use Rattle.mt_base.specs.Counts.{NeverFell}
-use Rattle.mt_engine.specs.Current.{Over, told_size}
+use Rattle.mt_engine.specs.Current.{IsCurrent, Over, told_size}
 use Rattle.mt_engine.specs.History.{Bytes, History}
 use Rattle.mt_engine.specs.Ready.{EngineIsReady}
 use Rattle.mt_model.specs.State.{State}
+use Rattle.mt_records.specs.Fate.{fate}
 use Rattle.mt_runner.specs.Account.{account_side, tasks_of, told_time}
 use Rattle.mt_runner.specs.AtWork.{AtWork}
+use Rattle.mt_runner.specs.Living.{LivesTo}
 use Rattle.mt_runner.specs.Turning.{working_of}
+use Rattle.mt_runner.specs.declared.turn.Turn.TheVariants as turn
 use Rattle.mt_runner.proofs.Drains.{SoFar}
 use Rattle.mt_runner.proofs.runner.Runner.drain.Given as goal
 
@@ -23,6 +26,8 @@ invariant-turns g l =
           (working_of (is_some (d.seen l.fn.disk)) (k.gives (k.rule l.fn.clock)) (p.gives (p.rule l.fn.spawner)) l.fn.self.login l.fn.self.slots l.fn.engine.log.limit base) l.most l.left l.fn.disk l.disk l.engine base h
           (account_side h (told_size (d.seen l.fn.disk) l.fn.engine) (d.faults l.fn.disk) (told_time (is_some (d.seen l.fn.disk)) (d.moment l.fn.disk)) (k.asked l.fn.clock) (tasks_of (p.seen l.fn.spawner)))
           (λ m. account_side m (told_size (d.seen l.disk) l.engine) (d.faults l.disk) (told_time (is_some (d.seen l.fn.disk)) (d.moment l.disk)) (k.asked l.clock) (tasks_of (p.seen l.spawner)));
+      lived : (base : State Bytes) (h : History) → IsCurrent (d.seen l.fn.disk) l.fn.engine base h
+          → LivesTo l.fn.self.login (p.gives (p.rule l.fn.spawner)) (fate l.fn.self.login) d.seen d.may_leave d.moment d.left_since l.fn.disk l.disk l.engine turn.Idle base h l.fn.self.kept l.self.kept;
       ready : EngineIsReady d.seen d.may_leave l.disk l.engine;
       at_work : AtWork (p.may (p.rule l.spawner)) (p.gives (p.rule l.spawner)) (p.seen l.spawner) (p.held l.spawner) l.self (d.seen l.disk) l.engine;
       told : is_some (d.seen l.disk) ≡ is_some (d.seen l.fn.disk);

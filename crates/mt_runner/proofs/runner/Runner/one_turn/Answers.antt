@@ -1,23 +1,21 @@
-use Rattle.std.proofs.Common.{◌≡◌, ◌∙◌, ap, sym, refl, subst, arith, inl, inr, ◌++◌, length, ◌≤◌, ℕ, map, List, Option, Some, None}
-use Rattle.std.specs.List.{AllByRecursion, find}
+use Rattle.std.proofs.Common.{◌≡◌, ◌∙◌, ap, sym, refl, subst, inl, inr, ℕ, List, Some, None}
+use Rattle.std.specs.List.{find}
 use Rattle.std.specs.Prelude.{option_map}
 use Rattle.mt_types.specs.declared.body.Body.{Body}
 use Rattle.mt_types.specs.declared.job.Job.{Job}
-use Rattle.mt_model.specs.Honest.{Bytes}
-use Rattle.mt_model.specs.State.{State}
 use Rattle.mt_model.specs.Tasks.{waits_finish}
 use Rattle.mt_tasks.specs.Right.{IsRight}
 use Rattle.mt_tasks.specs.Standing.{waiting}
-use Rattle.mt_runner.specs.Attempts.{RunnerState, attempts}
+use Rattle.mt_runner.specs.Attempts.{RunnerState}
 use Rattle.mt_runner.specs.Attends.{Attends, Works, attempts_in, is_ready_now, ready_of, work_side}
 use Rattle.mt_runner.specs.Moves.{MovesOn, end_of_job}
 use Rattle.mt_runner.specs.declared.turn.Turn.{Turn}
 use Rattle.mt_runner.proofs.Lists.{all_kept}
+use Rattle.mt_runner.proofs.Lived.{lives_dropped, paired_kept}
 use Rattle.mt_runner.proofs.Moved.{ends_at, moved_from, moved_job, rights_at}
 use Rattle.mt_runner.proofs.Pairs.{are_of, are_paired, are_those}
 use Rattle.mt_runner.proofs.Progressing.{progressed}
 use Rattle.mt_runner.proofs.Stales.{counts_none}
-use Rattle.mt_runner.proofs.Takes.{may_add}
 use Rattle.mt_runner.proofs.Works.{attended, finished, left_ready}
 use Rattle.mt_runner.proofs.runner.Runner.one_turn.Goals as goal
 
@@ -59,6 +57,7 @@ returns-in_default-clause-moves g c =
     let new = work_side c.work.new.self.kept (p.seen c.work.new.spawner) c.work.new.engine (d.faults c.work.new.disk) in
     moved_from d.seen d.moment d.left_since p.gives p.may _ _ _ _ c.args.now c.args.disk.now old mid c.work.result c.work.new.disk new c.drop_stale.ensures.rule c.drop_stale.ensures.login refl
     (λ s r. rights_at _ _ _ s (ready_of c.args.engine.now.state (attempts_in old)) (attempts_in mid) (are_those _ _ _ c.drop_stale.ensures.left) (all_kept (λ x. IsRight _ _ _ s x.task x.fate) (is_ready_now c.args.engine.now.state) (attempts_in old) r))
+    (λ base h i r. lives_dropped c.args.self.now.login (p.gives (p.rule c.args.spawner.now)) (p.may (p.rule c.args.spawner.now)) (d.seen c.args.disk.now) old mid c.requires.paired c.drop_stale.ensures.left c.holds.ensures.tickets c.work.result base h i r)
     c.work.ensures.moves
 
 pub returns-clause-attends : goal.returns-clause-attends
@@ -111,6 +110,8 @@ returns-clause-moves g c =
     (sym c.end_of_job.ensures)
     (moved_job d.seen d.may_leave d.moment d.left_since _ _ _ c.args.now c.args.disk.now old c.in-Some.job c.close_job-end.result c.close_job-end.new.disk new c.jobs.ensures.lawful some e.read
     (λ base h r. rights_at _ _ _ _ (ready_of c.args.engine.now.state (attempts_in old)) (attempts_in new) (are_those _ _ _ c.drop_stale.ensures.left) (all_kept (λ x. IsRight _ _ _ _ x.task x.fate) (is_ready_now c.args.engine.now.state) (attempts_in old) r))
+    (paired_kept _ _ (are_paired _ _ _ c.drop_stale.ensures.left))
+    (λ base h i r. lives_dropped c.args.self.now.login (p.gives (p.rule c.args.spawner.now)) (p.may (p.rule c.args.spawner.now)) (d.seen c.args.disk.now) old new c.requires.paired c.drop_stale.ensures.left c.holds.ensures.tickets (end_of_job c.in-Some.job c.close_job-end.result) base h i r)
     (ends_at d.seen d.moment d.left_since _ _ c.in-Some.job c.args.now c.close_job-end.result c.args.disk.now c.args.engine.now c.close_job-end.new.disk c.close_job-end.new.engine login e.takes))
 
 pub returns-clause-paired : goal.returns-clause-paired

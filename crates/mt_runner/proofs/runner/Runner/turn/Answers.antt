@@ -1,8 +1,8 @@
-use Rattle.std.proofs.Common.{◌≡◌, ◌∙◌, refl, sym}
+use Rattle.std.proofs.Common.{refl}
 use Rattle.mt_runner.specs.Attempts.{attempts}
 use Rattle.mt_runner.specs.Attends.{work_side}
 use Rattle.mt_runner.proofs.Answered.{company_by, disk_by, fewer_by, goes_by, idle_by, not_idle, stays_by}
-use Rattle.mt_runner.proofs.Turns.{at_rule, right_after, went}
+use Rattle.mt_runner.proofs.Turns.{at_rule, lived, right_after, went}
 use Rattle.mt_runner.proofs.runner.Runner.turn.Goals as goal
 
 pub one_turn-requires-clause-free : goal.one_turn-requires-clause-free
@@ -26,6 +26,19 @@ returns-clause-takes g c =
     (k.asked c.args.clock.now) (k.asked c.now-now.new.self) c.now-now.result c.args.disk.now c.one_turn.new.disk old new c.one_turn.result
     c.now-now.ensures.given c.now-now.ensures.asked c.requires.ready.is_open e.moves e.progress e.goes_on
     (goes_by c.args.self.now.slots c.now-now.result old c.one_turn.result new c.requires.ready.is_open e.attends) c.requires.at_work.right refl refl e.faults (g.met.D.Disk.counts_now c.one_turn.new.disk)
+
+pub returns-clause-lives : goal.returns-clause-lives
+returns-clause-lives g c base h i =
+    let d = g.D.Disk in
+    let p = g.P.Spawner in
+    let k = g.C.Clock in
+    let e = c.one_turn.ensures in
+    let old = work_side c.args.self.now.kept (p.seen c.args.spawner.now) c.args.engine.now (d.faults c.args.disk.now) in
+    let new = work_side c.one_turn.new.self.kept (p.seen c.one_turn.new.spawner) c.one_turn.new.engine (d.faults c.one_turn.new.disk) in
+    lived d.seen d.may_leave d.faults d.moment d.left_since (k.gives (k.rule c.args.clock.now)) (p.gives (p.rule c.args.spawner.now)) (p.may (p.rule c.args.spawner.now)) c.args.self.now.login c.args.self.now.slots
+    (k.asked c.args.clock.now) (k.asked c.now-now.new.self) c.now-now.result c.args.disk.now c.one_turn.new.disk old new c.one_turn.result
+    c.now-now.ensures.given c.now-now.ensures.asked c.requires.ready.is_open e.moves e.progress e.goes_on
+    (goes_by c.args.self.now.slots c.now-now.result old c.one_turn.result new c.requires.ready.is_open e.attends) c.requires.at_work.right refl refl e.faults (g.met.D.Disk.counts_now c.one_turn.new.disk) base h i
 
 pub returns-clause-at_work : goal.returns-clause-at_work
 returns-clause-at_work g c =

@@ -1,13 +1,15 @@
-use Rattle.std.proofs.Common.{◌≡◌, ◌∙◌, ap, sym, refl, subst, arith, inl, inr, ◌++◌, length, ◌≤◌, ℕ, map}
+use Rattle.std.proofs.Common.{◌≡◌, ◌∙◌, ap, sym, refl, subst, arith, inl, inr, length, map}
 use Rattle.mt_runner.specs.Attempts.{RunnerState, attempts}
 use Rattle.mt_runner.specs.Attends.{Works, attempts_in, work_side}
 use Rattle.mt_runner.specs.Moves.{MovesOn}
 use Rattle.mt_spawn.specs.Children.{MayBe, ticket_of}
 use Rattle.mt_runner.specs.declared.turn.Turn.{Turn}
+use Rattle.mt_runner.specs.declared.turn.Turn.TheVariants as turn
 use Rattle.mt_runner.proofs.Fills.{began_paired}
 use Rattle.mt_runner.proofs.Works.{some_of, zero_of, ended, ended_on, idle, lives_on, loses, some_live, stops, taken_ready, took, tried_of, waits}
+use Rattle.mt_runner.proofs.Lived.{live_kept, lives_as_filled, lives_but_one, lives_filled, none_came_kept, paired_kept}
 use Rattle.mt_runner.proofs.Moved.{moved_none, moved_task, takes_at, rights_filled, rights_gone, rights_live, rights_none}
-use Rattle.mt_runner.proofs.Pairs.{are_of, are_paired}
+use Rattle.mt_runner.proofs.Pairs.{are_paired}
 use Rattle.mt_runner.proofs.runner.Runner.work.Goals as goal
 
 pub returns-in-SpawnFault-clause-works : goal.returns-in-SpawnFault-clause-works
@@ -19,8 +21,10 @@ returns-in-SpawnFault-clause-works g c =
 pub returns-in-SpawnFault-clause-moves : goal.returns-in-SpawnFault-clause-moves
 returns-in-SpawnFault-clause-moves g c =
     let d = g.D.Disk in
+    let k = c.holds.ensures in
     moved_none d.seen d.may_leave d.moment d.left_since _ _ _ c.args.now _ _ _ _ _ (g.met.D.Disk.only_now c.args.disk.now) c.requires.engine c.fill-filled.ensures.read refl
     (λ base h i. (refl, i)) (λ base h i r. rights_filled d.seen d.may_leave d.moment d.left_since _ _ _ c.args.now c.args.disk.now _ _ c.in-SpawnFault.ensures.fills.0 base h i r)
+    (lives_filled c.args.self.now.login (g.P.Spawner.gives (g.P.Spawner.rule c.args.spawner.now)) _ _ _ _ c.in-SpawnFault.ensures.fills.0 c.requires.lawful c.requires.paired (began_paired _ _ _ _ c.in-SpawnFault.ensures.fills.0) k.tickets k.tasks turn.SpawnFault)
 
 pub returns-in-SpawnFault-clause-paired : goal.returns-in-SpawnFault-clause-paired
 returns-in-SpawnFault-clause-paired g c = began_paired _ _ _ _ c.in-SpawnFault.ensures.fills.0
@@ -34,8 +38,10 @@ returns-in-Disk-clause-works g c =
 pub returns-in-Disk-clause-moves : goal.returns-in-Disk-clause-moves
 returns-in-Disk-clause-moves g c =
     let d = g.D.Disk in
+    let k = c.holds.ensures in
     moved_none d.seen d.may_leave d.moment d.left_since _ _ _ c.args.now _ _ _ _ _ (g.met.D.Disk.only_now c.args.disk.now) c.requires.engine c.fill-filled.ensures.read refl
     (λ base h i. inl (refl, λ is_open. i)) (λ base h i r. rights_filled d.seen d.may_leave d.moment d.left_since _ _ _ c.args.now c.args.disk.now _ _ c.in-Disk.ensures.fills.0 base h i r)
+    (lives_filled c.args.self.now.login (g.P.Spawner.gives (g.P.Spawner.rule c.args.spawner.now)) _ _ _ _ c.in-Disk.ensures.fills.0 c.requires.lawful c.requires.paired (began_paired _ _ _ _ c.in-Disk.ensures.fills.0) k.tickets k.tasks turn.Disk)
 
 pub returns-in-Disk-clause-paired : goal.returns-in-Disk-clause-paired
 returns-in-Disk-clause-paired g c = began_paired _ _ _ _ c.in-Disk.ensures.fills.0
@@ -49,8 +55,10 @@ returns-in-Memory-clause-works g c =
 pub returns-in-Memory-clause-moves : goal.returns-in-Memory-clause-moves
 returns-in-Memory-clause-moves g c =
     let d = g.D.Disk in
+    let k = c.holds.ensures in
     moved_none d.seen d.may_leave d.moment d.left_since _ _ _ c.args.now _ _ _ _ _ (g.met.D.Disk.only_now c.args.disk.now) c.requires.engine c.fill-filled.ensures.read refl
     (λ base h i. (refl, λ is_open. i)) (λ base h i r. rights_filled d.seen d.may_leave d.moment d.left_since _ _ _ c.args.now c.args.disk.now _ _ c.in-Memory.ensures.fills.0 base h i r)
+    (lives_filled c.args.self.now.login (g.P.Spawner.gives (g.P.Spawner.rule c.args.spawner.now)) _ _ _ _ c.in-Memory.ensures.fills.0 c.requires.lawful c.requires.paired (began_paired _ _ _ _ c.in-Memory.ensures.fills.0) k.tickets k.tasks turn.Memory)
 
 pub returns-in-Memory-clause-paired : goal.returns-in-Memory-clause-paired
 returns-in-Memory-clause-paired g c = began_paired _ _ _ _ c.in-Memory.ensures.fills.0
@@ -65,8 +73,10 @@ returns-then-is_empty-clause-works g c =
 pub returns-then-is_empty-clause-moves : goal.returns-then-is_empty-clause-moves
 returns-then-is_empty-clause-moves g c =
     let d = g.D.Disk in
+    let k = c.holds.ensures in
     moved_none d.seen d.may_leave d.moment d.left_since _ _ _ c.args.now _ _ _ _ _ (g.met.D.Disk.only_now c.args.disk.now) c.requires.engine c.fill-filled.ensures.read refl
     (λ base h i. (refl, i)) (λ base h i r. rights_filled d.seen d.may_leave d.moment d.left_since _ _ _ c.args.now c.args.disk.now _ _ c.in-Whole.ensures.fills.0 base h i r)
+    (lives_filled c.args.self.now.login (g.P.Spawner.gives (g.P.Spawner.rule c.args.spawner.now)) _ _ _ _ c.in-Whole.ensures.fills.0 c.requires.lawful c.requires.paired (began_paired _ _ _ _ c.in-Whole.ensures.fills.0) k.tickets k.tasks turn.Idle)
 
 pub await_one-requires-clause-paired : goal.await_one-requires-clause-paired
 await_one-requires-clause-paired g c = began_paired _ _ _ _ c.in-Whole.ensures.fills.0
@@ -93,9 +103,11 @@ returns-in-NotYet-clause-works g c =
 pub returns-in-NotYet-clause-moves : goal.returns-in-NotYet-clause-moves
 returns-in-NotYet-clause-moves g c =
     let d = g.D.Disk in
+    let k = c.holds.ensures in
     let w = c.in-NotYet.ensures.awaits c.args.engine.now (g.D.Disk.faults c.fill-filled.new.disk) in
     moved_none d.seen d.may_leave d.moment d.left_since _ _ _ c.args.now _ _ _ _ _ (g.met.D.Disk.only_now c.args.disk.now) c.requires.engine c.fill-filled.ensures.read refl
     (λ base h i. (refl, i)) (λ base h i r. rights_none _ _ _ _ _ _ w.0 (rights_filled d.seen d.may_leave d.moment d.left_since _ _ _ c.args.now c.args.disk.now _ _ c.in-Whole.ensures.fills.0 base h i r))
+    (lives_as_filled c.args.self.now.login (g.P.Spawner.gives (g.P.Spawner.rule c.args.spawner.now)) _ _ _ _ c.in-Whole.ensures.fills.0 c.requires.lawful c.requires.paired (began_paired _ _ _ _ c.in-Whole.ensures.fills.0) k.tickets k.tasks _ (none_came_kept _ _ (began_paired _ _ _ _ c.in-Whole.ensures.fills.0) w.0) turn.NotYet)
 
 pub returns-in-NotYet-clause-paired : goal.returns-in-NotYet-clause-paired
 returns-in-NotYet-clause-paired g c = let w = c.in-NotYet.ensures.awaits c.args.engine.now 0 in are_paired _ _ w.0.zs w.0.are
@@ -117,9 +129,11 @@ returns-in-Failed-clause-works g c =
 pub returns-in-Failed-clause-moves : goal.returns-in-Failed-clause-moves
 returns-in-Failed-clause-moves g c =
     let d = g.D.Disk in
+    let k = c.holds.ensures in
     let w = c.in-Failed.ensures.awaits c.args.engine.now (g.D.Disk.faults c.fill-filled.new.disk) in
     moved_none d.seen d.may_leave d.moment d.left_since _ _ _ c.args.now _ _ _ _ _ (g.met.D.Disk.only_now c.args.disk.now) c.requires.engine c.fill-filled.ensures.read refl
     (λ base h i. (refl, i)) (λ base h i r. rights_gone _ _ _ _ _ w.0.x _ _ w.0.gone (rights_filled d.seen d.may_leave d.moment d.left_since _ _ _ c.args.now c.args.disk.now _ _ c.in-Whole.ensures.fills.0 base h i r))
+    (lives_but_one c.args.self.now.login (g.P.Spawner.gives (g.P.Spawner.rule c.args.spawner.now)) _ _ _ _ c.in-Whole.ensures.fills.0 c.requires.lawful c.requires.paired (began_paired _ _ _ _ c.in-Whole.ensures.fills.0) k.tickets k.tasks _ w.0 turn.SpawnFault refl)
 
 pub returns-in-Failed-clause-paired : goal.returns-in-Failed-clause-paired
 returns-in-Failed-clause-paired g c = let w = c.in-Failed.ensures.awaits c.args.engine.now 0 in are_paired _ _ _ w.0.gone.are
@@ -141,9 +155,11 @@ returns-in-Lost-clause-works g c =
 pub returns-in-Lost-clause-moves : goal.returns-in-Lost-clause-moves
 returns-in-Lost-clause-moves g c =
     let d = g.D.Disk in
+    let k = c.holds.ensures in
     let w = c.in-Lost.ensures.awaits c.args.engine.now (g.D.Disk.faults c.fill-filled.new.disk) in
     moved_none d.seen d.may_leave d.moment d.left_since _ _ _ c.args.now _ _ _ _ _ (g.met.D.Disk.only_now c.args.disk.now) c.requires.engine c.fill-filled.ensures.read refl
     (λ base h i. (refl, λ is_open. i)) (λ base h i r. rights_gone _ _ _ _ _ w.0.x _ _ w.0.gone (rights_filled d.seen d.may_leave d.moment d.left_since _ _ _ c.args.now c.args.disk.now _ _ c.in-Whole.ensures.fills.0 base h i r))
+    (lives_but_one c.args.self.now.login (g.P.Spawner.gives (g.P.Spawner.rule c.args.spawner.now)) _ _ _ _ c.in-Whole.ensures.fills.0 c.requires.lawful c.requires.paired (began_paired _ _ _ _ c.in-Whole.ensures.fills.0) k.tickets k.tasks _ w.0 turn.Memory refl)
 
 pub returns-in-Lost-clause-paired : goal.returns-in-Lost-clause-paired
 returns-in-Lost-clause-paired g c = let w = c.in-Lost.ensures.awaits c.args.engine.now 0 in are_paired _ _ _ w.0.gone.are
@@ -165,9 +181,11 @@ returns-in-Memory-await_one-clause-works g c =
 pub returns-in-Memory-await_one-clause-moves : goal.returns-in-Memory-await_one-clause-moves
 returns-in-Memory-await_one-clause-moves g c =
     let d = g.D.Disk in
+    let k = c.holds.ensures in
     let w = c.in-Memory-await_one.ensures.awaits c.args.engine.now (g.D.Disk.faults c.fill-filled.new.disk) in
     moved_none d.seen d.may_leave d.moment d.left_since _ _ _ c.args.now _ _ _ _ _ (g.met.D.Disk.only_now c.args.disk.now) c.requires.engine c.fill-filled.ensures.read refl
     (λ base h i. (refl, λ is_open. i)) (λ base h i r. rights_live _ _ _ _ _ _ _ w.0 (rights_filled d.seen d.may_leave d.moment d.left_since _ _ _ c.args.now c.args.disk.now _ _ c.in-Whole.ensures.fills.0 base h i r))
+    (lives_as_filled c.args.self.now.login (g.P.Spawner.gives (g.P.Spawner.rule c.args.spawner.now)) _ _ _ _ c.in-Whole.ensures.fills.0 c.requires.lawful c.requires.paired (began_paired _ _ _ _ c.in-Whole.ensures.fills.0) k.tickets k.tasks _ (live_kept _ _ (began_paired _ _ _ _ c.in-Whole.ensures.fills.0) w.0) turn.Memory)
 
 pub returns-in-Memory-await_one-clause-paired : goal.returns-in-Memory-await_one-clause-paired
 returns-in-Memory-await_one-clause-paired g c = let w = c.in-Memory-await_one.ensures.awaits c.args.engine.now 0 in are_paired _ _ _ w.0.are
@@ -198,6 +216,8 @@ returns-clause-moves g c =
     let d = g.D.Disk in
     let p = g.P.Spawner in
     let e = c.take_outcome-end.ensures in
+    let k = c.holds.ensures in
+    let f = c.in-Whole.ensures.fills in
     let w = c.in-Ended.ensures.awaits c.args.engine.now (d.faults c.fill-filled.new.disk) in
     let old = work_side c.args.self.now.kept (p.seen c.args.spawner.now) c.args.engine.now (d.faults c.args.disk.now) in
     let mid = work_side c.fill-filled.new.self.kept (p.seen c.fill-filled.new.spawner) c.args.engine.now (d.faults c.fill-filled.new.disk) in
@@ -213,7 +233,8 @@ returns-clause-moves g c =
     (moved_task d.seen d.may_leave d.moment d.left_since _ _ _ c.args.now c.args.disk.now old mid left (attempts_in mid) w.0.x c.in-Ended.task c.in-Ended.left (p.told c.await_one.new.spawner) c.take_outcome-end.result c.fill-filled.new.disk c.take_outcome-end.new.disk new
     (g.met.D.Disk.only_now c.args.disk.now) c.requires.engine c.requires.lawful c.requires.waits c.fill-filled.ensures.read w.0.gone w.0.its given
     (λ base h i r. rights_filled d.seen d.may_leave d.moment d.left_since _ _ _ c.args.now c.args.disk.now _ _ c.in-Whole.ensures.fills.0 base h i r)
-    (ap (attempts c.await_one.new.self.kept) e.same.live) takes)
+    (ap (attempts c.await_one.new.self.kept) e.same.live) refl (paired_kept _ _ (began_paired _ _ _ _ f.0)) k.tickets
+    (λ base h i. lives_filled c.args.self.now.login (g.P.Spawner.gives (g.P.Spawner.rule c.args.spawner.now)) _ _ old mid f.0 c.requires.lawful c.requires.paired (began_paired _ _ _ _ f.0) k.tickets k.tasks _ base h i) takes)
 
 pub returns-clause-paired : goal.returns-clause-paired
 returns-clause-paired g c =
