@@ -1,3 +1,5 @@
+pub mod Accepted
+pub mod Clients
 pub mod Companies
 pub mod Completeness
 pub mod Conversing

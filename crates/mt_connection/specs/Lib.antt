@@ -3,3 +3,4 @@ pub mod Transcript
 pub mod Outcomes
 pub mod Endings
 pub mod Steps
+pub mod Accepted

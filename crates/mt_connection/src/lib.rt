@@ -4,7 +4,7 @@
 //!   interim reply, its body, its answer and its reply.
 //! - `end`: how a connection ends, and what one message more does to it.
 //! - `receive`: a head and the interim reply behind it; `respond`: a reply; `refuse`: what is no message.
-//! - `laws`: what the bytes of a source say of its end is one thing.
+//! - `laws`: what the bytes of a source say of its end is one thing, and what a message adds is a step of the life of a store.
 //!
 //! In `specs/` begin with `Transcript`, the exchanges of a connection, and `Endings`, its ends; `Sides` is what both change; its part that is
 //! no link, and turns, are words of `mt_runner` (`Account`, `Turning`). `Steps` says what the parts do, `Outcomes` what the bytes alone say.

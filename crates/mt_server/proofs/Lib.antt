@@ -20,3 +20,4 @@ pub mod Worked
 pub mod Finishing
 pub mod Complete
 pub mod Done
+pub mod Chains

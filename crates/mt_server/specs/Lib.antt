@@ -3,3 +3,4 @@ pub mod Statuses
 pub mod Events
 pub mod Guarantees
 pub mod Visiting
+pub mod Chains

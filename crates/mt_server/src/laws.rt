@@ -1,4 +1,4 @@
-//! Laws of events.
+//! Laws of events, and of runs one behind the other.
 ghost use Rattle.std.specs.Prelude.{◌≡◌, ◌++◌, Bool, false, ℕ, List, length, map};
 ghost use Rattle.std.specs.List.{list_any};
 ghost use Rattle.mt_model.specs.State.{State};
@@ -7,6 +7,7 @@ ghost use Rattle.mt_lives.specs.Lives.{RunsAreLives, ToldStays};
 ghost use Rattle.mt_runner.specs.Account.{AccountSide};
 ghost use Rattle.mt_connection.specs.Sides.{side_of};
 ghost use Rattle.mt_connection.specs.Transcript.{setting};
+ghost use Rattle.mt_server.specs.Chains.{ImagesAreCrashes, LivesAreHonest, LivesKeepArchives, RunsAreHonest, RunsHaveArchives};
 ghost use Rattle.mt_server.specs.Guarantees.{Visited};
 ghost use Rattle.mt_server.specs.Events.{AreWhole, DoorSide, DrainsBehind, Event, Events, GoesOn, Had, Passed, Round, Rounds, fatal, firsts, given_of, lasts, over_in, turns_in};
 
@@ -34,4 +35,22 @@ pub fn events_go_on<D: Disk, P: Spawner, L: Both, C: Clock>()
 pub fn runs_are_lives()
     ensures lives { RunsAreLives HasHistory }
     ensures stays { ToldStays HasHistory }
+{}
+
+/// An image that a run leaves is what a crash leaves of the world of its history: what was told of stands, and no attempt at a task is left. So the
+/// next run, which opens it, begins in that world.
+pub fn images_are_crashes<P: Spawner>()
+    ensures { (children : P.Rule) (login : Bytes) → ImagesAreCrashes login (P.gives children) }
+{}
+
+/// Where what each run added is honest, the whole history of all runs is, whichever images they were opened from.
+pub fn lives_are_honest<P: Spawner>()
+    ensures run { (children : P.Rule) (login : Bytes) → RunsAreHonest login (P.gives children) }
+    ensures lives { (children : P.Rule) (login : Bytes) → LivesAreHonest login (P.gives children) }
+{}
+
+/// Where the archives of what each run added are the texts of their jobs, so are those of the whole history.
+pub fn lives_keep_archives()
+    ensures run { RunsHaveArchives }
+    ensures lives { LivesKeepArchives }
 {}

@@ -4,11 +4,11 @@
 //! - `session`: one connection over a source and a sink, and a drain of tasks behind it; `serve`: turns of the links of a door, one
 //!   after another, and a drain behind each; `came`: what a call at the door came to.
 //! - `opening`: the store, or why it can't be opened; `line`: the line that says so.
-//! - `laws`: events go on.
+//! - `laws`: events go on, and so do runs, as lives of one store.
 //! - `status`: how a run ended, and its number.
 //!
 //! In `specs/` begin with `Guarantees`; `Statuses` says what each status means, `Events` what many connections are, `Lines` what is
-//! written where nothing is served.
+//! written where nothing is served, `Chains` what holds over many runs.
 #![tactic(auto)]
 
 mod came;
