@@ -1,0 +1,213 @@
+//! The log, the parts and the body that rows speak of.
+use md5::{Digest, Md5};
+use mt_body::{Storing, read_body, store};
+use mt_disk::{FileNo, Room};
+use mt_edge::MemSource;
+use mt_join::{Joining, join, pieces_size};
+use mt_log::Log;
+use mt_rows::{Row, Rows, Stop};
+use mt_types::{Body, PartRow};
+use mt_untold::Untold;
+use std::alloc::{AllocError, Global};
+
+/// The most bytes of a part.
+const MOST: u64 = 200_000;
+
+/// The room of a disk: three parts, and their join.
+const ROOM: Room = Room {
+    file: 1_200_000,
+    calls: 256,
+    written: 1_200_000,
+};
+
+/// A log over a disk, the parts that were stored last, and the body that was joined last.
+#[derive(Drop)]
+pub struct Joins {
+    disk: Option<Untold>,
+    log: Option<Log>,
+    parts: Vec<PartRow<Body>>,
+    body: Option<Body>,
+}
+
+fn put_hex(out: &mut String, bytes: &[u8]) -> Result<(), AllocError> {
+    for byte in bytes {
+        write!(out, "{byte:02x}")?;
+    }
+    Ok(())
+}
+
+// The place, the length and the digest of a body.
+fn put_body(out: &mut String, body: &Body) -> Result<(), AllocError> {
+    write!(out, "{} {} ", body.first, body.len)?;
+    put_hex(out, &body.md5)
+}
+
+// The bytes of the part of this number, no two pieces of which are alike.
+fn pattern(alloc: Global, number: u8, len: usize) -> Result<Vec<u8>, AllocError> {
+    let mut bytes = Vec::with_capacity(alloc, len)?;
+    for i in 0..len {
+        bytes.push((((i % 251 + number as usize) % 251) ^ (i / 256 % 256)) as u8)?;
+    }
+    Ok(bytes)
+}
+
+// Stores the part of this number in a run of its own.
+fn stored(
+    alloc: Global,
+    disk: &mut Untold,
+    log: &mut Log,
+    number: u8,
+    len: u64,
+) -> Result<Body, Stop> {
+    if log.is_closed() || log.is_old() || len > MOST {
+        return Err(Stop::NoSuchRow);
+    }
+    let mut sum = Md5::new();
+    let mut source = MemSource::new(alloc, pattern(alloc, number, len as usize)?);
+    let mut run = log.begin_run(disk);
+    let stored = store(alloc, log, disk, &mut run, &mut source, &mut sum);
+    let end = log.end_run(disk, run);
+    match (stored, end) {
+        (Storing::Stored(body), Ok(())) => Ok(body),
+        (Storing::Memory, _) => Err(Stop::Memory),
+        _ => Err(Stop::NoSuchRow),
+    }
+}
+
+// Stores parts of these lengths, numbered from 0.
+fn put_parts(
+    alloc: Global,
+    disk: &mut Untold,
+    log: &mut Log,
+    row: &Row,
+    out: &mut String,
+) -> Result<Vec<PartRow<Body>>, Stop> {
+    let mut parts = Vec::new(alloc);
+    let mut number = 0;
+    for len in row.numbers(alloc, 1)? {
+        let body = stored(alloc, disk, log, number, len)?;
+        parts.push(PartRow {
+            index: number as u16,
+            number: number as u64,
+            body,
+        })?;
+        number = number.saturating_add(1);
+    }
+    write!(out, "log {}", log.len())?;
+    Ok(parts)
+}
+
+// Joins the parts in a run, and ends it.
+fn put_joined(
+    alloc: Global,
+    disk: &mut Untold,
+    log: &mut Log,
+    parts: &[PartRow<Body>],
+    out: &mut String,
+) -> Result<Option<Body>, Stop> {
+    if log.is_closed() || log.is_old() {
+        return Err(Stop::NoSuchRow);
+    }
+    let mut run = log.begin_run(disk);
+    let joining = join(alloc, log, disk, &mut run, parts);
+    let joined = match joining {
+        Joining::Joined(body) => {
+            write!(out, "Joined ")?;
+            put_body(out, &body)?;
+            Some(body)
+        }
+        Joining::Memory => return Err(Stop::Memory),
+        other => {
+            write!(out, "{other:?}")?;
+            None
+        }
+    };
+    let end = log.end_run(disk, run);
+    write!(out, "; {end:?}, log {}; calls {}", log.len(), disk.made())?;
+    Ok(joined)
+}
+
+// All bytes of the body.
+fn put_whole(
+    alloc: Global,
+    disk: &mut Untold,
+    log: &Log,
+    body: &Body,
+    out: &mut String,
+) -> Result<(), Stop> {
+    if log.is_closed() || body.len > 3 * MOST {
+        return Err(Stop::NoSuchRow);
+    }
+    let mut bytes = Vec::with_capacity(alloc, body.len as usize)?;
+    bytes.resize(body.len as usize, 0)?;
+    let done = read_body(log, disk, body, 0, bytes.as_mut_slice());
+    write!(out, "{done:?} {} bytes ", bytes.len())?;
+    put_hex(out, &Md5::digest(&bytes))?;
+    Ok(())
+}
+
+impl Joins {
+    /// No log yet.
+    pub fn new(alloc: Global) -> Joins {
+        Joins {
+            disk: None,
+            log: None,
+            parts: Vec::new(alloc),
+            body: None,
+        }
+    }
+
+    // A new log under a limit.
+    fn open(&mut self, alloc: Global, row: &Row, out: &mut String) -> Result<(), Stop> {
+        let mut disk = Untold::new(alloc, ROOM)?;
+        match Log::open(alloc, &mut disk, row.number(1)?) {
+            Ok(log) => {
+                write!(out, "Ok({})", log.len())?;
+                self.log = Some(log);
+            }
+            Err(_) => return Err(Stop::Memory),
+        }
+        self.disk = Some(disk);
+        self.parts = Vec::new(alloc);
+        self.body = None;
+        Ok(())
+    }
+
+    // A row of the log that is there. The numbers of `fail` are of its calls of the disk that fail.
+    fn call(&mut self, alloc: Global, row: &Row, out: &mut String) -> Result<(), Stop> {
+        let (Some(disk), Some(log)) = (&mut self.disk, &mut self.log) else {
+            return Err(Stop::NoSuchRow);
+        };
+        match (row.text(0)?, &self.body) {
+            ("fail", _) => disk.fail(row.numbers(alloc, 1)?),
+            ("one", _) => {
+                write!(out, "{} bytes ", disk.file(FileNo::One).len())?;
+                put_hex(out, &Md5::digest(disk.file(FileNo::One)))?;
+            }
+            ("parts", _) => self.parts = put_parts(alloc, disk, log, row, out)?,
+            ("join", _) => self.body = put_joined(alloc, disk, log, &self.parts, out)?,
+            ("whole", Some(body)) => put_whole(alloc, disk, log, body, out)?,
+            _ => return Err(Stop::NoSuchRow),
+        }
+        Ok(())
+    }
+}
+
+impl Rows for Joins {
+    fn answer(
+        &mut self,
+        alloc: Global,
+        _line: &str,
+        row: &Row,
+        out: &mut String,
+    ) -> Result<(), Stop> {
+        match row.text(0)? {
+            "open" => self.open(alloc, row, out),
+            "size" => {
+                write!(out, "{}", pieces_size(row.number(1)?))?;
+                Ok(())
+            }
+            _ => self.call(alloc, row, out),
+        }
+    }
+}
