@@ -1,5 +1,6 @@
 #!/usr/bin/env python3
-"""Prints the table of upload_rows with the wanted answers: documents are judged by Python's json, identifiers made by its uuid."""
+"""Prints the table of upload_rows with the wanted answers: documents are judged by Python's json, identifiers made by its uuid, and
+accounts kept as plain dictionaries."""
 import json
 import re
 import uuid
@@ -203,6 +204,275 @@ def states():
         row(f"state 4096 {word(name.encode())} open 2", escaped(json.dumps(value, separators=(",", ":"), ensure_ascii=False).encode()))
 
 
+class Account:
+    """An account as plain dictionaries: its rows by their paths, and its uploads by their numbers."""
+
+    def __init__(self):
+        self.position = 0
+        self.rows = {"/l/stor": 0, "/l/public": 0, "/l/jobs": 0}  # a directory is its moment, an object a list
+        self.uploads = {}
+        print("new")
+
+    def change(self, call, refusal, made):
+        if refusal is None:
+            made(4096 * self.position, 1000 + self.position)
+            self.position += 1
+        row(call, refusal or f"at {self.position}")
+
+    def no_object(self, name):
+        """Why no object may be put there."""
+        if name.count("/") == 2:
+            return "RootDirectory"
+        above = self.rows.get(name.rsplit("/", 1)[0])
+        if above is None:
+            return "DirectoryDoesNotExist"
+        if isinstance(above, list):
+            return "ParentNotDirectory"
+        return "DirectoryOperation" if isinstance(self.rows.get(name), int) else None
+
+    def put(self, name, length):
+        def made(number, moment):
+            self.rows[name] = [number, length, moment, "text/plain"]
+
+        self.change(f"put {name} {length}", self.no_object(name), made)
+
+    def directory(self, name):
+        def made(number, moment):
+            self.rows[name] = moment
+
+        self.change(f"directory {name}", None, made)
+
+    def remove(self, name):
+        def made(number, moment):
+            del self.rows[name]
+
+        self.change(f"remove {name}", None, made)
+
+    def begin(self, name, kind="text/plain"):
+        def made(number, moment):
+            self.uploads[number] = {"path": name, "type": kind, "moment": moment, "stage": "Open", "parts": {}}
+
+        self.change(f"begin {name} {word(kind.encode())}", "RootDirectory" if name.startswith("/l/jobs") or name.count("/") == 2 else None, made)
+
+    def not_open(self, upload):
+        if upload not in self.uploads:
+            return "UploadNotFound"
+        return None if self.uploads[upload]["stage"] == "Open" else "UploadState"
+
+    def part(self, upload, index, length):
+        def made(number, moment):
+            self.uploads[upload]["parts"][index] = (number, length)
+
+        self.change(f"part {upload} {index} {length}", self.not_open(upload), made)
+
+    def fall(self, upload, count, length):
+        for index in reversed(range(count)):
+            self.uploads[upload]["parts"][index] = (4096 * self.position, length)
+            self.position += 1
+        row(f"fall {upload} {count} {length}", f"at {self.position}")
+
+    def end(self, upload, stage):
+        self.uploads[upload].update(stage=stage, parts={})
+
+    def committed(self, call, upload, numbers):
+        def refusal():
+            if self.not_open(upload):
+                return self.not_open(upload)
+            found = self.uploads[upload]
+            parts = [found["parts"].get(index) for index in range(len(numbers))]
+            if any(part is None or part[0] != number for part, number in zip(parts, numbers)):
+                return "UploadPart"
+            if sum(part[1] for part in parts) > 1073741824:
+                return "UploadTooLarge"
+            return self.no_object(found["path"])
+
+        def made(number, moment):
+            found = self.uploads[upload]
+            length = sum(found["parts"][index][1] for index in range(len(numbers)))
+            self.rows[found["path"]] = [number, length, moment, found["type"]]
+            self.end(upload, "Committed")
+
+        self.change(call, refusal(), made)
+
+    def commit(self, upload, *numbers):
+        self.committed(f"commit {upload}" + "".join(f" {n}" for n in numbers), upload, numbers)
+
+    def rising(self, upload):
+        parts = self.uploads.get(upload, {"parts": {}})["parts"]
+        return [(index, *parts[index]) for index in sorted(parts)]
+
+    def commit_front(self, upload, count):
+        self.committed(f"commit-front {upload} {count}", upload, [number for _, number, _ in self.rising(upload)[:count]])
+
+    def abort(self, upload):
+        self.change(f"abort {upload}", self.not_open(upload), lambda number, moment: self.end(upload, "Aborted"))
+
+    def look(self, upload):
+        found = self.uploads.get(upload)
+        if found is None:
+            row(f"look {upload}", "none")
+        else:
+            row(f"look {upload}", f'{upload} {found["path"]} "{found["type"]}" {found["moment"]} {found["stage"]} {len(found["parts"])}')
+
+    def parts(self, upload, start=0):
+        parts = self.rising(upload)[start:]
+        row(f"parts {upload} {start}", "".join(f"{index}: {number} {length}; " for index, number, length in parts[:4]) + str(len(parts)))
+
+    def joined(self, upload, count):
+        row(f"joined {upload} {count}", min(2**64 - 1, sum(length for _, _, length in self.rising(upload)[:count])))
+
+    def at(self, name):
+        found = self.rows.get(name)
+        if isinstance(found, list):
+            row(f"at {name}", f'{found[0]} {found[1]} {found[2]} "{found[3]}"')
+        else:
+            row(f"at {name}", "none" if found is None else f"directory {found}")
+
+    def all(self):
+        row("uploads", f"{len(self.uploads)}:" + "".join(f" {number}" for number in self.uploads))
+
+
+def accounts():
+    print("# An upload of two parts, of hel and lo, refused out of order, and committed once.")
+    a = Account()
+    a.all()
+    a.begin("/l/stor/a")
+    a.look(0)
+    a.parts(0)
+    a.part(0, 0, 3)
+    a.part(0, 1, 2)
+    a.parts(0)
+    a.joined(0, 0)
+    a.joined(0, 1)
+    a.joined(0, 2)
+    a.joined(0, 3)
+    a.commit(0, 8192, 4096)
+    a.commit(0, 4096, 8192, 12288)
+    a.commit(0, 4096, 8193)
+    a.commit(0, 2**64 - 1)
+    a.at("/l/stor/a")
+    a.look(0)
+    a.commit(0, 4096, 8192)
+    a.at("/l/stor/a")
+    a.look(0)
+    a.parts(0)
+    a.joined(0, 2)
+    a.commit(0, 4096, 8192)
+    a.commit(0)
+    a.part(0, 0, 1)
+    a.abort(0)
+    a.all()
+    print("# What is not there.")
+    for upload in (1, 4096, 4095, 2**62, 2**64 - 1):
+        a.look(upload)
+        a.part(upload, 0, 1)
+        a.commit(upload)
+        a.abort(upload)
+        a.joined(upload, 1)
+    print("# Where none may begin. The rest is looked at when it is committed.")
+    b = Account()
+    for name in ("/l/stor", "/l/public", "/l/jobs", "/l/jobs/a", "/l/jobs/a/b", "/l/stor/none/b", "/l/public/a"):
+        b.begin(name, "a b")
+    b.all()
+    b.look(4096 * 1)
+    print("# A commit of none makes an empty object.")
+    b.commit(4096)
+    b.at("/l/public/a")
+    print("# Where no object may be put, a commit is refused as a put is, and its upload stays open.")
+    b.part(0, 0, 7)
+    b.commit(0, 12288)
+    b.put("/l/stor/none", 1)
+    b.commit(0, 12288)
+    b.look(0)
+    b.remove("/l/stor/none")
+    b.directory("/l/stor/none")
+    b.directory("/l/stor/none/b")
+    b.commit(0, 12288)
+    b.put("/l/stor/none/b", 1)
+    b.look(0)
+    b.parts(0)
+    b.remove("/l/stor/none/b")
+    b.commit(0, 12288)
+    b.at("/l/stor/none/b")
+    print("# The parts are judged before the path.")
+    b.begin("/l/stor/none")
+    upload = 4096 * (b.position - 1)
+    b.commit(upload, 1)
+    b.commit(upload)
+    b.abort(upload)
+    b.look(upload)
+    b.commit(upload)
+    b.abort(upload)
+    b.part(upload, 0, 1)
+    print("# An object that stands there is replaced.")
+    b.begin("/l/public/a", "")
+    b.put("/l/public/a", 99)
+    b.at("/l/public/a")
+    b.commit(4096 * (b.position - 2))
+    b.at("/l/public/a")
+    b.all()
+    print("# A part twice: the second counts. Parts that leave a place out are no front.")
+    c = Account()
+    c.begin("/l/stor/a")
+    c.begin("/l/stor/b")
+    c.part(0, 1, 5)
+    c.part(0, 1, 6)
+    c.parts(0)
+    c.part(4096, 0, 1)
+    c.part(4096, 2, 2)
+    c.commit(4096, 16384, 20480)
+    c.commit(4096, 20480)
+    c.part(0, 0, 1)
+    c.commit(0, 4096 * 6, 8192)
+    c.commit(0, 4096 * 6, 8192 + 4096)
+    c.at("/l/stor/a")
+    c.parts(4096)
+    c.commit(4096, 16384)
+    c.at("/l/stor/b")
+    print("# A part that is put in every place, between others, before and behind them.")
+    d = Account()
+    d.begin("/l/stor/a")
+    for index in (5000, 0, 9999, 1, 4999, 5001, 9998, 2500, 7500, 0, 5000, 9999):
+        d.part(0, index, index)
+        d.parts(0)
+    for start in (3, 6, 8):
+        d.parts(0, start)
+    print("# The bytes of all parts: 1,073,741,824 at most, however many there are.")
+    e = Account()
+    e.begin("/l/stor/a")
+    e.part(0, 0, 1073741824)
+    e.part(0, 1, 1)
+    e.part(0, 2, 0)
+    e.joined(0, 2)
+    e.commit(0, 4096, 8192, 12288)
+    e.commit(0, 8192)
+    e.directory("/l/stor/a")
+    e.commit(0, 4096, 8192)
+    e.commit(0, 4096)
+    e.remove("/l/stor/a")
+    e.part(0, 0, 2**64 - 1)
+    e.joined(0, 1)
+    e.joined(0, 2)
+    e.part(0, 1, 2**64 - 1)
+    e.joined(0, 3)
+    e.commit(0, 4096 * (e.position - 2), 4096 * (e.position - 1))
+    e.part(0, 0, 1073741823)
+    e.part(0, 1, 1)
+    e.commit(0, 4096 * (e.position - 2), 4096 * (e.position - 1))
+    e.at("/l/stor/a")
+    print("# 10,000 parts in falling order, listed and committed.")
+    f = Account()
+    f.begin("/l/stor/a")
+    f.fall(0, 10000, 100)
+    f.parts(0)
+    f.parts(0, 9996)
+    f.joined(0, 10000)
+    f.commit_front(0, 10000)
+    f.at("/l/stor/a")
+    f.look(0)
+
+
 uploads()
 lists()
 states()
+accounts()

@@ -1,16 +1,22 @@
 //! `upload_rows`: the calls of the crates of uploads in parts, row by row. Its stored run is their table of cases.
 //!
 //! - `documents`: `mt_uploaddoc`.
+//! - `steps`: `mt_upload`, over an `account`: its rows and its uploads together, and what changes them.
 #![tactic(auto)]
 
+mod account;
 mod documents;
+mod steps;
 
 use mt_rows::{Row, Rows, Stop, print_table};
 use std::alloc::Global;
 use std::io;
+use steps::Steps;
 
 #[derive(Drop)]
-struct Uploads {}
+struct Uploads {
+    steps: Steps,
+}
 
 impl Rows for Uploads {
     fn answer(
@@ -23,11 +29,13 @@ impl Rows for Uploads {
         if documents::answer(alloc, line, row, out)? {
             return Ok(());
         }
-        Err(Stop::NoSuchRow)
+        self.steps.answer(alloc, row, out)
     }
 }
 
 fn main(rt: HostRuntime) -> io::Result<()> {
-    let mut uploads = Uploads {};
+    let mut uploads = Uploads {
+        steps: Steps::new(),
+    };
     print_table(&rt, &mut uploads)
 }
