@@ -2,7 +2,7 @@
 ghost use Rattle.std.specs.Prelude.{ℕ, Bool};
 ghost use Rattle.mt_engine.specs.History.{Bytes};
 ghost use Rattle.mt_model.specs.State.{State};
-ghost use Rattle.mt_connection.specs.Accepted.{RequestsAreSteps};
+ghost use Rattle.mt_connection.specs.Accepted.{RequestsAreSteps, RequestsKeepChildren};
 ghost use Rattle.mt_connection.specs.Outcomes.{OutcomeIsOne};
 ghost use Rattle.mt_connection.specs.Transcript.{setting};
 
@@ -14,7 +14,9 @@ pub fn outcome_is_one()
     ensures { OutcomeIsOne }
 {}
 
-/// What a message adds is a step of the life of a store: its command is accepted from a client, or nothing happens, and attempts at tasks stay.
+/// What a message adds is a step of the life of a store: its command is accepted from a client, or nothing happens, and attempts at tasks stay. The
+/// children that a runner keeps are the same attempts behind it.
 pub fn requests_are_steps<P: Spawner, C: Clock>()
-    ensures { (children : P.Rule) (clock : C.Rule) (hears knows : Bool) (login : Bytes) (slots limit : ℕ) (base : State Bytes) → RequestsAreSteps (setting hears knows (C.gives clock) (P.gives children) login slots limit base) }
+    ensures steps { (children : P.Rule) (clock : C.Rule) (hears knows : Bool) (login : Bytes) (slots limit : ℕ) (base : State Bytes) → RequestsAreSteps (setting hears knows (C.gives clock) (P.gives children) login slots limit base) }
+    ensures children { (children : P.Rule) (clock : C.Rule) (hears knows : Bool) (login : Bytes) (slots limit : ℕ) (base : State Bytes) → RequestsKeepChildren (setting hears knows (C.gives clock) (P.gives children) login slots limit base) }
 {}
