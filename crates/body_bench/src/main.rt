@@ -1,7 +1,7 @@
 //! `body_bench`: the work that the measurement of bodies takes the time of, over files of a folder: standard input is stored as a body
-//! of the log, and sent from there to standard output.
+//! of the log, and sent from there to standard output, or joined to itself.
 //!
-//! - `work`: storing and sending. `outcome`: why it was not done, as a line and a status.
+//! - `work`: storing, sending and joining. `outcome`: why it was not done, as a line and a status.
 #![tactic(auto)]
 
 ghost use Rattle.std.specs.Option.{ForSome};
@@ -17,30 +17,63 @@ use mt_log::Log;
 use outcome::Fault;
 use std::alloc::Global;
 use std::process::ExitCode;
-use work::{send_whole, store_whole};
+use work::{join_whole, send_whole, store_whole};
 
 /// The limit of the log, in bytes: more than any measurement writes.
 const LIMIT: u64 = 1 << 40;
 
-// Stores standard input, and sends it to standard output where that is asked for.
-fn work_on<D: Disk>(alloc: Global, rt: HostRuntime, disk: &mut D, sends: bool) -> Result<(), Fault>
+/// What is done with standard input.
+#[derive(Clone, Copy)]
+enum Measure {
+    /// It is stored.
+    Store,
+    /// It is stored, and sent to standard output.
+    Copy,
+    /// It is stored, and joined to itself.
+    Join,
+}
+
+// The measure of this name.
+fn measure_named(word: &str) -> Option<Measure> {
+    match word {
+        "store" => Some(Measure::Store),
+        "copy" => Some(Measure::Copy),
+        "join" => Some(Measure::Join),
+        _ => None,
+    }
+}
+
+// Says how many bytes were stored or joined, and how long the log is.
+fn say(rt: HostRuntime, done: &str, len: u64, log: u64) -> Result<(), Fault> {
+    match println!(rt; "{len} bytes {done}, the log has {log} bytes") {
+        Ok(()) => Ok(()),
+        Err(_) => Err(Fault::Output),
+    }
+}
+
+// Stores standard input, and does with it what is asked for.
+fn work_on<D: Disk>(
+    alloc: Global,
+    rt: HostRuntime,
+    disk: &mut D,
+    measure: Measure,
+) -> Result<(), Fault>
     requires rest { IsAtRest D.seen D.may_leave disk.old }
     requires fit { ForSome (D.seen disk.old) Fit }
 {
     let mut log = Log::open(alloc, disk, LIMIT)?;
     let mut source = StdSource::new(alloc, rt.stdin())?;
     let body = store_whole(alloc, &mut log, disk, &mut source)?;
-    if sends {
-        let mut sink = StdSink::over(rt.stdout());
-        return send_whole(alloc, &log, disk, &mut sink, &body);
-    }
-    match println!(rt;
-        "{} bytes stored, the log has {} bytes",
-        body.len,
-        log.len()
-    ) {
-        Ok(()) => Ok(()),
-        Err(_) => Err(Fault::Output),
+    match measure {
+        Measure::Store => say(rt, "stored", body.len, log.len()),
+        Measure::Copy => {
+            let mut sink = StdSink::over(rt.stdout());
+            send_whole(alloc, &log, disk, &mut sink, &body)
+        }
+        Measure::Join => {
+            let whole = join_whole(alloc, &mut log, disk, &body)?;
+            say(rt, "joined", whole.len, log.len())
+        }
     }
 }
 
@@ -51,12 +84,11 @@ fn run(rt: HostRuntime) -> Result<(), Fault> {
     let [word, folder] = words.as_slice() else {
         return Err(Fault::Usage);
     };
-    let sends = word.as_str() == "copy";
-    if !sends && word.as_str() != "store" {
+    let Some(measure) = measure_named(word.as_str()) else {
         return Err(Fault::Usage);
-    }
+    };
     let mut disk = FileDisk::new(alloc, rt, folder.as_str())?;
-    work_on(alloc, rt, &mut disk, sends)
+    work_on(alloc, rt, &mut disk, measure)
 }
 
 fn main(rt: HostRuntime) -> ExitCode {

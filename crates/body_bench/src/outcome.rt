@@ -39,7 +39,7 @@ impl Fault {
 impl fmt::Display for Fault {
     fn fmt<W: fmt::Write>(&self, f: &mut fmt::Formatter<W>) -> fmt::Result {
         match self {
-            Fault::Usage => write!(f, "usage: body_bench store|copy FOLDER"),
+            Fault::Usage => write!(f, "usage: body_bench store|copy|join FOLDER"),
             Fault::Opening(e) => write!(f, "the log can't be opened: {e:?}"),
             Fault::Input => write!(f, "standard input has failed"),
             Fault::Output => write!(f, "standard output has failed"),

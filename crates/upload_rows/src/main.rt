@@ -1,13 +1,16 @@
 //! `upload_rows`: the calls of the crates of uploads in parts, row by row. Its stored run is their table of cases.
 //!
 //! - `documents`: `mt_uploaddoc`.
+//! - `joins`: `mt_join`, over a log.
 //! - `steps`: `mt_upload`, over an `account`: its rows and its uploads together, and what changes them.
 #![tactic(auto)]
 
 mod account;
 mod documents;
+mod joins;
 mod steps;
 
+use joins::Joins;
 use mt_rows::{Row, Rows, Stop, print_table};
 use std::alloc::Global;
 use std::io;
@@ -15,6 +18,7 @@ use steps::Steps;
 
 #[derive(Drop)]
 struct Uploads {
+    joins: Joins,
     steps: Steps,
 }
 
@@ -26,7 +30,7 @@ impl Rows for Uploads {
         row: &Row,
         out: &mut String,
     ) -> Result<(), Stop> {
-        if documents::answer(alloc, line, row, out)? {
+        if documents::answer(alloc, line, row, out)? || self.joins.answer(alloc, row, out)? {
             return Ok(());
         }
         self.steps.answer(alloc, row, out)
@@ -35,6 +39,7 @@ impl Rows for Uploads {
 
 fn main(rt: HostRuntime) -> io::Result<()> {
     let mut uploads = Uploads {
+        joins: Joins::new(rt.alloc()),
         steps: Steps::new(),
     };
     print_table(&rt, &mut uploads)

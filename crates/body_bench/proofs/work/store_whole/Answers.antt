@@ -1,7 +1,6 @@
-use Rattle.std.proofs.Common.{◌≡◌, ℕ, List, [], ap, sym, subst, ◌∙◌, option_map}
+use Rattle.std.proofs.Common.{[], ap, sym, subst, ◌∙◌}
 use Rattle.mt_log.specs.LogState.{LogState, told, with_payloads}
 use Rattle.mt_log.specs.RunState.{HasTaken}
-use Rattle.mt_body.specs.Stored.{bytes_of, is_stored}
 use Rattle.body_bench.proofs.Whole.{stored_whole}
 use Rattle.body_bench.proofs.work.store_whole.Goals as goal
 

@@ -1,11 +1,11 @@
-//! The log, the parts and the body that rows speak of.
+//! Rows of `mt_join`: a log over a disk, the parts that are stored there, and the body that they are joined to.
 use md5::{Digest, Md5};
 use mt_body::{Storing, read_body, store};
 use mt_disk::{FileNo, Room};
 use mt_edge::MemSource;
 use mt_join::{Joining, join, pieces_size};
 use mt_log::Log;
-use mt_rows::{Row, Rows, Stop};
+use mt_rows::{Row, Stop};
 use mt_types::{Body, PartRow};
 use mt_untold::Untold;
 use std::alloc::{AllocError, Global};
@@ -184,30 +184,22 @@ impl Joins {
                 write!(out, "{} bytes ", disk.file(FileNo::One).len())?;
                 put_hex(out, &Md5::digest(disk.file(FileNo::One)))?;
             }
-            ("parts", _) => self.parts = put_parts(alloc, disk, log, row, out)?,
+            ("stored", _) => self.parts = put_parts(alloc, disk, log, row, out)?,
             ("join", _) => self.body = put_joined(alloc, disk, log, &self.parts, out)?,
             ("whole", Some(body)) => put_whole(alloc, disk, log, body, out)?,
             _ => return Err(Stop::NoSuchRow),
         }
         Ok(())
     }
-}
 
-impl Rows for Joins {
-    fn answer(
-        &mut self,
-        alloc: Global,
-        _line: &str,
-        row: &Row,
-        out: &mut String,
-    ) -> Result<(), Stop> {
+    /// The answer to a row of this crate, if it is one.
+    pub fn answer(&mut self, alloc: Global, row: &Row, out: &mut String) -> Result<bool, Stop> {
         match row.text(0)? {
-            "open" => self.open(alloc, row, out),
-            "size" => {
-                write!(out, "{}", pieces_size(row.number(1)?))?;
-                Ok(())
-            }
-            _ => self.call(alloc, row, out),
+            "open" => self.open(alloc, row, out)?,
+            "size" => write!(out, "{}", pieces_size(row.number(1)?))?,
+            "fail" | "one" | "stored" | "join" | "whole" => self.call(alloc, row, out)?,
+            _ => return Ok(false),
         }
+        Ok(true)
     }
 }
