@@ -154,16 +154,20 @@ class Crew:
         self.waits += 1
         return "NotYet"
 
+    def leaves(self, data, otherwise):
+        """What a child leaves that read this."""
+        return echo(data, otherwise)
+
     def take(self, store, child):
         (number, phase, place), _, otherwise = child
         job = next(job for job in store.jobs.values() if job.number == number)
-        data = tasks.run_of(store, job, phase, place)[2]
+        left = self.leaves(tasks.run_of(store, job, phase, place)[2], otherwise)
         if not otherwise:
-            for _ in range(-(-len(data) // 65_536)):  # a read a piece, where there is room for all
+            for _ in range(-(-len(left.out) // 65_536)):  # a read a piece, where there is room for all
                 self.reads += 1
                 if self.fails("reads_fail", self.reads - 1):
                     return "SpawnFault"
-        return "Committed" if tasks.commit(store, job, phase, place, lambda run, data: echo(data, otherwise)) else "Full"
+        return "Committed" if tasks.commit(store, job, phase, place, lambda run, data: left) else "Full"
 
     def turn(self, store):
         """What one turn does, by the page of mt_runner."""
@@ -960,4 +964,5 @@ def main():
 
 
 TABLE = Table()
-main()
+if __name__ == "__main__":
+    main()
