@@ -1,18 +1,13 @@
--- A crew over a disk that tells nothing: an open engine is ready, and a runner whose children are those that live is at work.
-use Rattle.std.proofs.Common.{◌≡◌, ℕ, List, false, Option, None, absurd}
+-- Over a disk that tells nothing, a runner whose children are those that live is at work.
+use Rattle.std.proofs.Common.{◌≡◌, ℕ, List, Option, None}
 use Rattle.std.proofs.lemmas.Option.{none-some}
-use Rattle.mt_disk.specs.Files.{Files}
 use Rattle.mt_types.specs.declared.task.Raw.{Raw}
 use Rattle.mt_types.specs.declared.task.Run.{Run}
 use Rattle.mt_spawn.specs.Children.{Seen}
 use Rattle.mt_spawn.specs.declared.task.Left.{Left}
 use Rattle.mt_engine.specs.Current.{EngineState}
-use Rattle.mt_engine.specs.Ready.{EngineIsReady}
 use Rattle.mt_runner.specs.Attempts.{ArePaired, RunnerState}
 use Rattle.mt_runner.specs.AtWork.{AtWork}
-
-pub untold_ready : {D : Type 0} (may_leave : D → Files → Type 0) (disk : D) (engine : EngineState) → engine.log.closed ≡ false → engine.log.is_old ≡ false → EngineIsReady (λ d. None) may_leave disk engine
-untold_ready may_leave disk engine is_open version = record { stands = λ o. tt; is_open = is_open; version = version; serves = λ o. tt }
 
 pub untold_work : {F : Type 0} (may : F → Raw → Type 0) (runs : Run → List ℕ → Raw → Type 0) (seen : Seen F) (held : Option Left) (runner : RunnerState) (engine : EngineState)
     → ArePaired runner.kept seen.live → held ≡ None → AtWork may runs seen held runner None engine

@@ -10,7 +10,7 @@ use mt_disk::Room;
 use mt_engine::Engine;
 use mt_rows::{Row, Rows, Stop};
 use mt_spawn::Script;
-use mt_untold::Untold;
+use mt_untold::{Untold, picks_of};
 use std::alloc::Global;
 use std::mem;
 
@@ -62,6 +62,24 @@ fn open(
             Ok(None)
         }
     }
+}
+
+// `stopped LIMIT CALL PICK..`: a turn over a copy of a disk.
+fn stop(
+    alloc: Global,
+    disk: &Untold,
+    cases: &[Case],
+    row: &Row,
+    out: &mut String,
+) -> Result<(), Stop> {
+    let limit = row.number(1)?;
+    let call = row.number(2)?;
+    let picks = picks_of(alloc, row, 3)?;
+    let mut failing = Vec::new(alloc);
+    failing.push(call)?;
+    let cases = copied(alloc, cases)?;
+    let copy = Untold::over(alloc, disk)?;
+    put_stopped(alloc, copy, limit, failing, cases, &picks, out)
 }
 
 // A row of the engine that is there.
@@ -124,10 +142,7 @@ impl Turns {
                 Ok(())
             }
             "calls" => Ok(write!(out, "{}", disk.made())?),
-            "stopped" => {
-                let cases = copied(alloc, &self.cases)?;
-                put_stopped(alloc, disk, cases, row, out)
-            }
+            "stopped" => stop(alloc, disk, &self.cases, row, out),
             _ => match &mut self.engine {
                 Some(engine) => ask(alloc, disk, engine, &mut self.crew, row, out),
                 None => Err(Stop::NoSuchRow),

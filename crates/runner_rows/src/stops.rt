@@ -2,27 +2,21 @@
 use crate::cases::Cases;
 use crate::crew::Crew;
 use crate::look::put_place;
-use mt_disk::CrashError;
+use mt_disk::{CrashError, Pick};
 use mt_engine::Engine;
-use mt_rows::{Row, Stop};
+use mt_rows::Stop;
 use mt_spawn::{MemSpawner, Script};
-use mt_untold::{Untold, picks_of};
+use mt_untold::Untold;
 use std::alloc::Global;
 
-// A turn of a new crew, of whose calls of the disk the one of a number fails.
-fn put_failing(
+// A turn of a crew, and where the engine then is.
+fn put_turn(
     alloc: Global,
     disk: &mut Untold,
     engine: &mut Engine,
-    cases: Cases,
-    failing: u64,
+    crew: &mut Crew<MemSpawner<Cases>>,
     out: &mut String,
 ) -> Result<(), Stop> {
-    let spawner = MemSpawner::new(alloc, cases, Script::new(alloc));
-    let mut crew = Crew::new(alloc, 1, spawner)?;
-    let mut numbers = Vec::new(alloc);
-    numbers.push(failing)?;
-    disk.fail(numbers);
     let turn = crew.turn(alloc, disk, engine, 0)?;
     write!(out, "{turn:?}; ")?;
     put_place(engine, out)
@@ -36,31 +30,63 @@ fn opened(alloc: Global, disk: &mut Untold, limit: u64) -> Result<Engine, Stop> 
     }
 }
 
+// The crew of one slot whose commands do this.
+fn crew_of(alloc: Global, cases: Cases) -> Result<Crew<MemSpawner<Cases>>, Stop> {
+    Crew::new(alloc, 1, MemSpawner::new(alloc, cases, Script::new(alloc)))
+}
+
+// An engine and a turn, of whose calls of the disk those of these numbers fail.
+fn put_failing(
+    alloc: Global,
+    disk: &mut Untold,
+    limit: u64,
+    failing: Vec<u64>,
+    crew: &mut Crew<MemSpawner<Cases>>,
+    out: &mut String,
+) -> Result<(), Stop> {
+    let mut engine = opened(alloc, disk, limit)?;
+    disk.fail(failing);
+    put_turn(alloc, disk, &mut engine, crew, out)
+}
+
+// How many commands a disk has.
+fn put_position(
+    alloc: Global,
+    disk: &mut Untold,
+    limit: u64,
+    out: &mut String,
+) -> Result<(), Stop> {
+    let engine = opened(alloc, disk, limit)?;
+    Ok(write!(out, "{}", engine.position())?)
+}
+
 // What a crash leaves of a disk.
-fn put_left(alloc: Global, disk: Untold, row: &Row, out: &mut String) -> Result<(), Stop> {
-    let picks = picks_of(alloc, row, 3)?;
-    out.push_str("; left ")?;
-    match disk.crash(alloc, &picks) {
-        Ok(mut left) => {
-            let engine = opened(alloc, &mut left, row.number(1)?)?;
-            Ok(write!(out, "{}", engine.position())?)
-        }
+fn put_left(
+    alloc: Global,
+    disk: Untold,
+    limit: u64,
+    picks: &[Pick],
+    out: &mut String,
+) -> Result<(), Stop> {
+    match disk.crash(alloc, picks) {
+        Ok(mut left) => put_position(alloc, &mut left, limit, out),
         Err(CrashError::NotAnImage) => Ok(out.push_str("no image")?),
         Err(CrashError::Memory) => Err(Stop::Memory),
     }
 }
 
-/// `stopped LIMIT CALL PICK..`: a turn of a new crew over a copy of the disk, of whose calls the one of this number fails, and the position
-/// that a crash by these picks leaves.
+/// A turn of a new crew over a disk, of whose calls those of these numbers fail, and how many commands a crash by these picks leaves.
 pub fn put_stopped(
     alloc: Global,
-    disk: &Untold,
+    mut disk: Untold,
+    limit: u64,
+    failing: Vec<u64>,
     cases: Cases,
-    row: &Row,
+    picks: &[Pick],
     out: &mut String,
 ) -> Result<(), Stop> {
-    let mut copy = Untold::over(alloc, disk)?;
-    let mut engine = opened(alloc, &mut copy, row.number(1)?)?;
-    put_failing(alloc, &mut copy, &mut engine, cases, row.number(2)?, out)?;
-    put_left(alloc, copy, row, out)
+    let mut crew = crew_of(alloc, cases)?;
+    put_failing(alloc, &mut disk, limit, failing, &mut crew, out)?;
+    out.push_str("; left ")?;
+    put_left(alloc, disk, limit, picks, out)
 }
