@@ -1,5 +1,5 @@
 -- What a spawner does that tells its outcomes is done by one too that tells nothing.
-use Rattle.std.specs.Prelude.{◌≡◌, ℕ, List, Option, Some, None, IfSome, ⊤}
+use Rattle.std.specs.Prelude.{ℕ, List, Option, Some, None, IfSome, ⊤}
 use Rattle.mt_types.specs.declared.task.Raw.{Raw}
 use Rattle.mt_edge.specs.declared.source.ReadStep.{ReadStep}
 use Rattle.mt_edge.specs.declared.source.ReadStep.TheVariants as read
