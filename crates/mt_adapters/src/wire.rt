@@ -58,6 +58,8 @@ pub(crate) struct Wire {
     pub(crate) side: Side,
     // More may have come than was read.
     more: bool,
+    // The client is known to have ended. Its set has told so, and won't again, so that it is read until its end comes.
+    ends: bool,
     // It was waited for too long.
     pub(crate) late: bool,
     // It stands in the queue of links that can be answered.
@@ -79,6 +81,7 @@ impl Wire {
             ahead: Ahead::new(alloc),
             side: Side::Open,
             more: false,
+            ends: false,
             late: false,
             queued: false,
             since: now,
@@ -102,7 +105,7 @@ impl Wire {
                 Moved::Ended
             }
             Ok((count, filled)) => {
-                self.more = filled;
+                self.more = filled || self.ends;
                 Moved::Bytes(count)
             }
             Err(error) if error.kind() == ErrorKind::WouldBlock => {
@@ -175,12 +178,11 @@ impl Wire {
 
     // Reads ahead what has come; `closed` where the client is known to send no more than that.
     fn fill(&mut self, closed: bool, now: u64) {
+        self.ends |= closed;
+        self.more |= closed;
         for _ in 0..READS {
-            if self.side != Side::Open {
+            if self.side != Side::Open || self.ahead.left().len() >= MOST {
                 return;
-            }
-            if self.ahead.left().len() >= MOST {
-                break;
             }
             let begins = self.ahead.is_empty();
             let Moved::Bytes(count) = self.read_ahead() else {
@@ -190,11 +192,10 @@ impl Wire {
             if begins {
                 self.began = now;
             }
-            if !closed && !self.more && count > 0 {
+            if !self.more && count > 0 {
                 return;
             }
         }
-        self.more |= closed;
     }
 
     // Whether it can be served without waiting: a whole message has come, or nothing more will.
