@@ -724,10 +724,9 @@ class Store:
         self.input_refusal(job)
         refuse("InvalidArgument", len(job.inputs) + len(job.missing) + len(lines) > MOST_LINES)
         named = [(read_text_path(self.login, line), line) for line in lines]
+        spelled = lambda path, line: b"\0" + self.path_bytes(path) if path else struct.pack(">BI", 1, len(line.encode())) + line.encode()
         command = struct.pack(">BQQI", 6, self.moment, job.number, len(lines))
-        for path, line in named:
-            command += b"\0" + self.path_bytes(path) if path else struct.pack(">BI", 1, len(line.encode())) + line.encode()
-        self.accept(command)
+        self.accept(command + b"".join(spelled(path, line) for path, line in named))
         for path, line in named:
             row = self.rows.get(path) if path else None
             if row is not None and row.is_object():

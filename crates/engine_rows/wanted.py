@@ -562,6 +562,7 @@ def job_rows(t):
     t.job_row(0, "add", "8192", "/l/stor/a", "/l/stor/a", "/l/stor/none")
     asked(8192)
     t.job_row(70_000, "commit", "8192", "0", "1", "emit", "-", "1", "70000", "keep", "/l/stor/k", "-", "7")
+    t.job_row(0, "commit", "8192", "0", "2")
     t.job_row(0, "end", "8192")
     t.job_row(0, "finish", "8192")
     t.row("open 400000")

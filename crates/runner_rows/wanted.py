@@ -389,10 +389,16 @@ def failures(t):
 
 def splits(t):
     t.note("Lines are shared out among three reducers. The first child is slow: what the second left is read first.")
+    shared(t, 3)
+    t.note("The same lines, shared out among eight where three reducers read: an output for a number above theirs goes to that of its remainder by three.")
+    shared(t, 8)
+
+
+def shared(t, count):
     t.disk()
     t.put("x", b"a\nb\n")
     t.put("y", b"b\nc\n")
-    t.job(("msplit 3",), ("cat", 3))
+    t.job((f"msplit {count}",), ("cat", 3))
     t.lines("x", "y")
     t.end()
     t.crew(4, waits=[1, 0])
@@ -579,9 +585,9 @@ def stops(t):
         unsynced = call - 1 if 1 <= call <= 8 else 1 if call == 10 else 0
         for pick in PICKS if unsynced else PICKS[:1]:
             left = before + (call == 10 and pick in ("ones", "whole"))
-            t.row(" ".join([f"stopped {t.store.limit} {call}", *[pick] * unsynced]), f"{answer}; left {left}")
+            t.row(" ".join([f"stopped {t.kind} 1 {t.store.limit} {call}", *[pick] * unsynced]), f"{answer}; left {left}")
     t.turn()
-    t.row(f"stopped {t.store.limit} 11", f"Idle; {t.stands()}; left {t.store.count}")
+    t.row(f"stopped {t.kind} 1 {t.store.limit} 11", f"Idle; {t.stands()}; left {t.store.count}")
 
 
 def sizes(t):
@@ -620,10 +626,8 @@ def main():
     for kind in ("told", "untold"):
         table.kind = kind
         table.note(f"A spawner that tells {'what its children end in' if kind == 'told' else 'nothing'}.")
-        for part in (maps, reduces, inputs, failures, splits, waiting, limits, faults, unread, slots, assets):
+        for part in (maps, reduces, inputs, failures, splits, waiting, limits, faults, unread, slots, assets, stops, sizes, idle):
             part(table)
-    for part in (stops, sizes, idle):
-        part(table)
     table.flush()
     print("\n".join(table.rows))
 

@@ -419,6 +419,10 @@ def words(t):
     ):
         t.run(wrong, 1, USAGE)
         t.calls(0)
+    t.note("The same where the line can't be written.")
+    print("fail writes 0")
+    t.run("session --login l", 1)
+    t.calls(0)
     t.files(b"", head=b"")
     t.note("Words of the grammar.")
     for right in (

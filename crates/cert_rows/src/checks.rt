@@ -28,11 +28,30 @@ fn said(checked: Checked) -> &'static str {
     }
 }
 
+// The number of a row that names these calls as what fails, in a list.
+fn fails_of(alloc: Global, row: &Row, calls: &str) -> Result<Vec<u64>, Stop> {
+    match row.text(1) {
+        Ok(named) if named == calls => one(alloc, row.number(2)?),
+        _ => Ok(Vec::new(alloc)),
+    }
+}
+
 // One number, as a list.
 fn one(alloc: Global, number: u64) -> Result<Vec<u64>, Stop> {
     let mut numbers = Vec::new(alloc);
     numbers.push(number)?;
     Ok(numbers)
+}
+
+// Checks a source.
+fn put_checked(
+    alloc: Global,
+    mut source: MemSource,
+    mut sink: MemSink,
+    out: &mut String,
+) -> Result<(), Stop> {
+    let end = check(alloc, LOGIN, &mut source, &mut sink);
+    put_end(out, end, &sink)
 }
 
 // How a check ended, and what it wrote.
@@ -83,15 +102,30 @@ impl Checks {
 
     // Checks the bytes.
     fn put_check(&mut self, alloc: Global, row: &Row, out: &mut String) -> Result<(), Stop> {
-        let mut source = self.take(alloc);
-        let mut sink = MemSink::new(alloc, SINK_ROOM)?;
-        match row.text(1) {
-            Ok("read") => source = source.failing(one(alloc, row.number(2)?)?),
-            Ok("write") => sink = sink.failing(one(alloc, row.number(2)?)?),
-            _ => {}
-        }
-        let end = check(alloc, LOGIN, &mut source, &mut sink);
-        put_end(out, end, &sink)
+        let reads = fails_of(alloc, row, "read")?;
+        let writes = fails_of(alloc, row, "write")?;
+        let sink = MemSink::new(alloc, SINK_ROOM)?.failing(writes);
+        put_checked(alloc, self.take(alloc).failing(reads), sink, out)
+    }
+
+    // A text and a line feed more.
+    fn put_line(&mut self, text: &str, out: &mut String) -> Result<(), Stop> {
+        self.bytes.extend_from_slice(text.as_bytes())?;
+        self.put(b"\n", out)
+    }
+
+    fn put_bytes(&mut self, row: &Row, out: &mut String) -> Result<(), Stop> {
+        self.put(row.bytes(1)?, out)
+    }
+
+    // A checker that has seen no line.
+    fn start(&mut self, alloc: Global, out: &mut String) -> Result<(), Stop> {
+        self.checker = Checker::new(alloc, LOGIN)?;
+        Ok(out.push_str("started")?)
+    }
+
+    fn step(&mut self, alloc: Global, text: &str, out: &mut String) -> Result<(), Stop> {
+        Ok(out.push_str(said(self.checker.line(alloc, text.as_bytes())))?)
     }
 
     /// The answer to a row of this crate; behind its first word the line has this text.
@@ -103,22 +137,12 @@ impl Checks {
         out: &mut String,
     ) -> Result<(), Stop> {
         match row.text(0)? {
-            "put" => {
-                self.bytes.extend_from_slice(text.as_bytes())?;
-                self.put(b"\n", out)
-            }
-            "bytes" => self.put(row.bytes(1)?, out),
+            "put" => self.put_line(text, out),
+            "bytes" => self.put_bytes(row, out),
             "many" => self.put_many(row, out),
             "check" => self.put_check(alloc, row, out),
-            "new" => {
-                self.checker = Checker::new(alloc, LOGIN)?;
-                out.push_str("started")?;
-                Ok(())
-            }
-            "step" => {
-                out.push_str(said(self.checker.line(alloc, text.as_bytes())))?;
-                Ok(())
-            }
+            "new" => self.start(alloc, out),
+            "step" => self.step(alloc, text, out),
             _ => Err(Stop::NoSuchRow),
         }
     }

@@ -15,7 +15,7 @@ use std::alloc::Global;
 const LOGIN: &str = "l";
 
 /// The room of a sink where a row names none, in bytes.
-const SINK_ROOM: usize = 1_048_576;
+const SINK_ROOM: u64 = 1_048_576;
 
 /// A job that is put together, and what was written of it.
 #[derive(Drop)]
@@ -112,6 +112,14 @@ fn document(alloc: Global, text: &[u8]) -> Result<JobDocument, Stop>
     }
 }
 
+// What stands behind the number in front of a text.
+fn behind(text: &str) -> Result<&str, Stop> {
+    match text.split_once(' ') {
+        Some((_number, rest)) => Ok(rest),
+        None => Err(Stop::NoSuchRow),
+    }
+}
+
 // How much of a certificate was written.
 fn put_end(out: &mut String, end: Written, sink: &MemSink) -> Result<(), Stop> {
     let end = match end {
@@ -123,24 +131,32 @@ fn put_end(out: &mut String, end: Written, sink: &MemSink) -> Result<(), Stop> {
     Ok(())
 }
 
+fn roomy(alloc: Global, room: u64) -> Result<MemSink, Stop> {
+    Ok(MemSink::new(alloc, room as usize)?)
+}
+
+// A sink with writes of so many bytes at most.
+fn narrow(alloc: Global, most: u64) -> Result<MemSink, Stop> {
+    match most as usize {
+        0 => Err(Stop::NoSuchRow),
+        most => Ok(roomy(alloc, SINK_ROOM)?.at_most(most)),
+    }
+}
+
+// A sink of which the write of this number fails.
+fn failing(alloc: Global, number: u64) -> Result<MemSink, Stop> {
+    let mut numbers = Vec::new(alloc);
+    numbers.push(number)?;
+    Ok(roomy(alloc, SINK_ROOM)?.failing(numbers))
+}
+
 // A sink as a row has it: with so much room, with writes of so many bytes at most, or of which the write of this number fails.
 fn sink(alloc: Global, row: &Row) -> Result<MemSink, Stop> {
-    let word = row.text(1);
-    if matches!(word, Ok("room")) {
-        return Ok(MemSink::new(alloc, row.number(2)? as usize)?);
-    }
-    let sink = MemSink::new(alloc, SINK_ROOM)?;
-    match word {
-        Ok("most") => match row.number(2)? as usize {
-            0 => Err(Stop::NoSuchRow),
-            most => Ok(sink.at_most(most)),
-        },
-        Ok("write") => {
-            let mut numbers = Vec::new(alloc);
-            numbers.push(row.number(2)?)?;
-            Ok(sink.failing(numbers))
-        }
-        _ => Ok(sink),
+    match row.text(1) {
+        Ok("room") => roomy(alloc, row.number(2)?),
+        Ok("most") => narrow(alloc, row.number(2)?),
+        Ok("write") => failing(alloc, row.number(2)?),
+        _ => roomy(alloc, SINK_ROOM),
     }
 }
 
@@ -226,20 +242,30 @@ impl Jobs {
     }
 
     // Whether the certificate of the job is within the limits.
-    fn put_fits(&mut self, alloc: Global, out: &mut String) -> Result<(), Stop> {
+    fn fits(&mut self, alloc: Global) -> Result<bool, Stop> {
         let job = self.take(alloc)?;
         let fits = certificate_fits(alloc, LOGIN, &job)?;
         self.put_back(job);
-        write!(out, "{}", fits)?;
-        Ok(())
+        Ok(fits)
+    }
+
+    fn put_fits(&mut self, alloc: Global, out: &mut String) -> Result<(), Stop> {
+        let fits = self.fits(alloc)?;
+        Ok(write!(out, "{fits}")?)
+    }
+
+    // Writes the certificate of the job to a sink.
+    fn write(&mut self, alloc: Global, sink: &mut MemSink) -> Result<Written, Stop> {
+        let job = self.take(alloc)?;
+        let end = write_certificate(alloc, LOGIN, &job, sink);
+        self.put_back(job);
+        Ok(end)
     }
 
     // Writes the certificate of the job.
     fn put_certificate(&mut self, alloc: Global, row: &Row, out: &mut String) -> Result<(), Stop> {
         let mut sink = sink(alloc, row)?;
-        let job = self.take(alloc)?;
-        let end = write_certificate(alloc, LOGIN, &job, &mut sink);
-        self.put_back(job);
+        let end = self.write(alloc, &mut sink)?;
         self.written = Vec::from_slice(alloc, sink.written())?;
         put_end(out, end, &sink)
     }
@@ -247,6 +273,49 @@ impl Jobs {
     /// What was written.
     pub fn written(&self) -> &[u8] {
         &self.written
+    }
+
+    fn job(&mut self, alloc: Global, text: &str, row: &Row, out: &mut String) -> Result<(), Stop> {
+        let document = behind(text)?;
+        self.begin(alloc, row.number(1)?, document.as_bytes())?;
+        Ok(out.push_str("begun")?)
+    }
+
+    fn job_bytes(&mut self, alloc: Global, row: &Row, out: &mut String) -> Result<(), Stop> {
+        self.begin(alloc, row.number(1)?, row.bytes(2)?)?;
+        Ok(out.push_str("begun")?)
+    }
+
+    fn list(&mut self, alloc: Global, text: &[u8], out: &mut String) -> Result<(), Stop> {
+        self.add(alloc, text)?;
+        Ok(out.push_str("listed")?)
+    }
+
+    fn list_bytes(&mut self, alloc: Global, row: &Row, out: &mut String) -> Result<(), Stop> {
+        self.list(alloc, row.bytes(1)?, out)
+    }
+
+    fn list_many(
+        &mut self,
+        alloc: Global,
+        text: &str,
+        row: &Row,
+        out: &mut String,
+    ) -> Result<(), Stop> {
+        let line = behind(text)?;
+        for _time in 0..row.number(1)? {
+            self.add(alloc, line.as_bytes())?;
+        }
+        Ok(out.push_str("listed")?)
+    }
+
+    fn more(&mut self, alloc: Global, row: &Row, out: &mut String) -> Result<(), Stop> {
+        self.grow(alloc, row.number(1)?)?;
+        Ok(out.push_str("listed")?)
+    }
+
+    fn put_written(&self, out: &mut String) -> Result<(), Stop> {
+        Ok(put_escaped(out, &self.written)?)
     }
 
     /// The answer to a row of this crate; behind its first word the line has this text.
@@ -258,43 +327,16 @@ impl Jobs {
         out: &mut String,
     ) -> Result<(), Stop> {
         match row.text(0)? {
-            "job" => {
-                let Some((_number, document)) = text.split_once(' ') else {
-                    return Err(Stop::NoSuchRow);
-                };
-                self.begin(alloc, row.number(1)?, document.as_bytes())?;
-                out.push_str("begun")?;
-            }
-            "job-bytes" => {
-                self.begin(alloc, row.number(1)?, row.bytes(2)?)?;
-                out.push_str("begun")?;
-            }
-            "list-bytes" => {
-                self.add(alloc, row.bytes(1)?)?;
-                out.push_str("listed")?;
-            }
-            "list" => {
-                self.add(alloc, text.as_bytes())?;
-                out.push_str("listed")?;
-            }
-            "list-many" => {
-                let Some((_number, line)) = text.split_once(' ') else {
-                    return Err(Stop::NoSuchRow);
-                };
-                for _time in 0..row.number(1)? {
-                    self.add(alloc, line.as_bytes())?;
-                }
-                out.push_str("listed")?;
-            }
-            "more" => {
-                self.grow(alloc, row.number(1)?)?;
-                out.push_str("listed")?;
-            }
-            "fits" => self.put_fits(alloc, out)?,
-            "certify" => self.put_certificate(alloc, row, out)?,
-            "written" => put_escaped(out, &self.written)?,
-            _ => return Err(Stop::NoSuchRow),
+            "job" => self.job(alloc, text, row, out),
+            "job-bytes" => self.job_bytes(alloc, row, out),
+            "list-bytes" => self.list_bytes(alloc, row, out),
+            "list" => self.list(alloc, text.as_bytes(), out),
+            "list-many" => self.list_many(alloc, text, row, out),
+            "more" => self.more(alloc, row, out),
+            "fits" => self.put_fits(alloc, out),
+            "certify" => self.put_certificate(alloc, row, out),
+            "written" => self.put_written(out),
+            _ => Err(Stop::NoSuchRow),
         }
-        Ok(())
     }
 }

@@ -16,7 +16,7 @@ use std::io;
 #[derive(Drop)]
 struct Certificates {
     checks: Option<Checks>,
-    jobs: Option<Jobs>,
+    jobs: Jobs,
 }
 
 // What stands behind the first word of a line, as it stands.
@@ -27,8 +27,21 @@ fn behind(line: &str) -> &str {
     }
 }
 
+// A checker's rows over these bytes.
+fn checks_of(alloc: Global, bytes: &[u8]) -> Result<Checks, Stop> {
+    let mut checks = Checks::new(alloc)?;
+    checks.hold(bytes)?;
+    Ok(checks)
+}
+
 impl Certificates {
-    // The answer to a row of `mt_cert`. What is written of a job is what is checked next.
+    // What is written of a job is what is checked next.
+    fn hold_written(&mut self, alloc: Global) -> Result<(), Stop> {
+        self.checks = Some(checks_of(alloc, self.jobs.written())?);
+        Ok(())
+    }
+
+    // The answer to a row of `mt_cert`.
     fn of_job(
         &mut self,
         alloc: Global,
@@ -36,15 +49,28 @@ impl Certificates {
         row: &Row,
         out: &mut String,
     ) -> Result<(), Stop> {
-        let mut jobs = self.jobs.take().unwrap_or(Jobs::new(alloc));
-        let done = jobs.answer(alloc, text, row, out);
+        let done = self.jobs.answer(alloc, text, row, out);
         if matches!(row.text(0), Ok("certify")) {
-            let mut checks = Checks::new(alloc)?;
-            checks.hold(jobs.written())?;
-            self.checks = Some(checks);
+            self.hold_written(alloc)?;
         }
-        self.jobs = Some(jobs);
         done
+    }
+
+    // The answer to a row of `mt_checker`.
+    fn of_check(
+        &mut self,
+        alloc: Global,
+        text: &str,
+        row: &Row,
+        out: &mut String,
+    ) -> Result<(), Stop> {
+        if self.checks.is_none() {
+            self.checks = Some(Checks::new(alloc)?);
+        }
+        match &mut self.checks {
+            Some(checks) => checks.answer(alloc, text, row, out),
+            None => Err(Stop::NoSuchRow),
+        }
     }
 }
 
@@ -58,7 +84,7 @@ impl Rows for Certificates {
     ) -> Result<(), Stop> {
         let text = behind(line);
         match row.text(0)? {
-            "line" | "line-bytes" => return lines::answer(alloc, text, row, out),
+            "line" | "line-bytes" => lines::answer(alloc, text, row, out),
             "job"
             | "job-bytes"
             | "list"
@@ -67,17 +93,8 @@ impl Rows for Certificates {
             | "more"
             | "fits"
             | "certify"
-            | "written" => {
-                return self.of_job(alloc, text, row, out);
-            }
-            _ => {}
-        }
-        if self.checks.is_none() {
-            self.checks = Some(Checks::new(alloc)?);
-        }
-        match &mut self.checks {
-            Some(checks) => checks.answer(alloc, text, row, out),
-            None => Err(Stop::NoSuchRow),
+            | "written" => self.of_job(alloc, text, row, out),
+            _ => self.of_check(alloc, text, row, out),
         }
     }
 }
@@ -85,7 +102,7 @@ impl Rows for Certificates {
 fn main(rt: HostRuntime) -> io::Result<()> {
     let mut certificates = Certificates {
         checks: None,
-        jobs: None,
+        jobs: Jobs::new(rt.alloc()),
     };
     print_table(&rt, &mut certificates)
 }

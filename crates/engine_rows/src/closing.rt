@@ -174,6 +174,15 @@ fn end_job<D: Disk>(
     }
 }
 
+// Whether the command that ends a job has room behind pieces of so many bytes.
+fn has_room(alloc: Global, engine: &Engine, size: u64, ending: Ending) -> Result<bool, AllocError>
+    requires number { IsTrue (is_number ending.job) }
+    requires moment { ending.moment ≤ LAST_MOMENT }
+{
+    let command = command_of(ending, blank());
+    engine.has_room(alloc, size, &command)
+}
+
 /// `close NUMBER HOW MOMENT`: how much the texts of a job add, whether that has room, and what becomes of the command that ends it.
 pub fn close(
     alloc: Global,
@@ -188,7 +197,7 @@ pub fn close(
     let ending = ending_at(engine, row)?;
     let size = engine.archive_len(alloc, LOGIN, ending.job, ending.cancelled, ending.moment)?;
     write!(out, "adds {size}, ")?;
-    if engine.has_room(alloc, size, &command_of(ending, blank()))? {
+    if has_room(alloc, engine, size, ending)? {
         let run = engine.begin_run(disk);
         end_job(alloc, disk, engine, run, ending, out)
     } else {

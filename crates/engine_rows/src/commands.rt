@@ -87,22 +87,59 @@ fn put(
     row: &Row,
     out: &mut String,
 ) -> Result<(), Stop> {
+    let moment = moment_at(row, 3)?;
+    let source = source_at(alloc, row)?;
+    put_from(
+        alloc,
+        disk,
+        engine,
+        source,
+        path_at(alloc, row, 1)?,
+        moment,
+        out,
+    )
+}
+
+// A put of the bytes of a source.
+fn put_from(
+    alloc: Global,
+    disk: &mut Untold,
+    engine: &mut Engine,
+    mut source: MemSource,
+    path: Path,
+    moment: u64,
+    out: &mut String,
+) -> Result<(), Stop>
+    requires { IsTrue (is_moment moment) }
+{
     if engine.is_closed() || engine.is_old() {
         return Err(Stop::NoSuchRow);
     }
-    let moment = moment_at(row, 3)?;
-    let path = path_at(alloc, row, 1)?;
-    let mut source = source_at(alloc, row)?;
     let mut sum = Md5::new();
     let mut run = engine.begin_run(disk);
     match engine.store_body(alloc, disk, &mut run, &mut source, &mut sum) {
-        Storing::Stored(body) => {
-            let command = put_of(alloc, path, body, moment)?;
-            let answer = engine.accept(alloc, disk, run, command);
-            Ok(write!(out, "{answer:?}")?)
-        }
+        Storing::Stored(body) => put_stored(alloc, disk, engine, run, path, body, moment, out),
         other => put_unstored(disk, engine, run, &other, out),
     }
+}
+
+// A put of a body that is stored in a run.
+fn put_stored<D: Disk>(
+    alloc: Global,
+    disk: &mut D,
+    engine: &mut Engine,
+    run: Run,
+    path: Path,
+    body: Body,
+    moment: u64,
+    out: &mut String,
+) -> Result<(), Stop>
+    requires ready { RunGoesOn D.seen D.may_leave disk.old engine.old run }
+    requires moment { IsTrue (is_moment moment) }
+{
+    let command = put_of(alloc, path, body, moment)?;
+    let answer = engine.accept(alloc, disk, run, command);
+    Ok(write!(out, "{answer:?}")?)
 }
 
 /// What became of a body that isn't stored whole, and of its run.
@@ -225,24 +262,31 @@ fn delete(
     accept(alloc, disk, engine, Command::Delete { path, moment }, out)
 }
 
-/// Answers a row of this module; `false` for another row.
+/// Whether a row of this name is of this module.
+pub fn answers(name: &str) -> bool {
+    matches!(
+        name,
+        "put" | "command" | "give-up" | "texts" | "close" | "directory" | "link" | "delete"
+    )
+}
+
+/// Answers a row of this module.
 pub fn answer(
     alloc: Global,
     disk: &mut Untold,
     engine: &mut Engine,
     row: &Row,
     out: &mut String,
-) -> Result<bool, Stop> {
+) -> Result<(), Stop> {
     match row.text(0)? {
-        "put" => put(alloc, disk, engine, row, out)?,
-        "command" => jobs::command(alloc, disk, engine, row, out)?,
-        "give-up" => give_up(alloc, disk, engine, row, out)?,
-        "texts" => closing::texts(alloc, disk, engine, row, out)?,
-        "close" => closing::close(alloc, disk, engine, row, out)?,
-        "directory" => make_directory(alloc, disk, engine, row, out)?,
-        "link" => link(alloc, disk, engine, row, out)?,
-        "delete" => delete(alloc, disk, engine, row, out)?,
-        _ => return Ok(false),
+        "put" => put(alloc, disk, engine, row, out),
+        "command" => jobs::command(alloc, disk, engine, row, out),
+        "give-up" => give_up(alloc, disk, engine, row, out),
+        "texts" => closing::texts(alloc, disk, engine, row, out),
+        "close" => closing::close(alloc, disk, engine, row, out),
+        "directory" => make_directory(alloc, disk, engine, row, out),
+        "link" => link(alloc, disk, engine, row, out),
+        "delete" => delete(alloc, disk, engine, row, out),
+        _ => Err(Stop::NoSuchRow),
     }
-    Ok(true)
 }

@@ -60,11 +60,25 @@ pub fn command(
     row: &Row,
     out: &mut String,
 ) -> Result<(), Stop> {
+    let source = source_of(alloc, row)?;
+    command_from(alloc, disk, engine, source, command_of(alloc, row)?, out)
+}
+
+// A command behind the bytes of a source.
+fn command_from(
+    alloc: Global,
+    disk: &mut Untold,
+    engine: &mut Engine,
+    mut source: MemSource,
+    command: Command<Body>,
+    out: &mut String,
+) -> Result<(), Stop>
+    requires kind { IsTaken (kind_of command) }
+    requires limits { IsWithinLimits command }
+{
     if engine.is_closed() || engine.is_old() {
         return Err(Stop::NoSuchRow);
     }
-    let command = command_of(alloc, row)?;
-    let mut source = source_of(alloc, row)?;
     let mut sum = Md5::new();
     let mut run = engine.begin_run(disk);
     match engine.store_body(alloc, disk, &mut run, &mut source, &mut sum) {

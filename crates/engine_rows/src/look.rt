@@ -8,7 +8,7 @@ use mt_edge::MemSink;
 use mt_engine::Engine;
 use mt_rows::{Row, Stop, put_escaped};
 use mt_tree::{Entry, Tree};
-use mt_types::{Body, Object};
+use mt_types::{Body, Object, Path};
 use mt_untold::Untold;
 use std::alloc::{AllocError, Global};
 
@@ -32,20 +32,31 @@ pub fn put_digest(out: &mut String, digest: &[u8; 16]) -> Result<(), AllocError>
     Ok(())
 }
 
+// The directory `/l/stor`.
+fn stor(alloc: Global) -> Result<Path, Stop> {
+    match Path::plain(alloc, "l", b"/l/stor") {
+        Ok(dir) => Ok(dir),
+        Err(_) => Err(Stop::NoSuchRow),
+    }
+}
+
+// An object's name and number, or a directory's name with a slash and its moment.
+fn put_listed(name: &[u8], entry: &Entry<Body>, out: &mut String) -> Result<(), AllocError> {
+    put_escaped(out, name)?;
+    match entry {
+        Entry::Directory { mtime } => write!(out, "/ {mtime}"),
+        Entry::Object(object) => write!(out, " {}", object.number),
+    }
+}
+
 /// Appends what stands below `/l/stor`: each object's name and number, and each directory's name with a slash and its moment.
 pub fn put_rows(alloc: Global, tree: &Tree<Body>, out: &mut String) -> Result<(), Stop> {
-    let Ok(dir) = mt_types::Path::plain(alloc, "l", b"/l/stor") else {
-        return Err(Stop::NoSuchRow);
-    };
+    let dir = stor(alloc)?;
     let page = tree.page(alloc, &dir, b"", ALL)?;
     let mut between = "";
     for listed in &page {
         out.push_str(between)?;
-        put_escaped(out, listed.name)?;
-        match listed.entry {
-            Entry::Directory { mtime } => write!(out, "/ {mtime}")?,
-            Entry::Object(object) => write!(out, " {}", object.number)?,
-        }
+        put_listed(listed.name, listed.entry, out)?;
         between = ", ";
     }
     Ok(())

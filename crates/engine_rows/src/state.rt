@@ -86,10 +86,29 @@ fn call_engine(
     out: &mut String,
 ) -> Result<(), Stop> {
     let before = disk.made();
-    if commands::answer(alloc, disk, engine, row, out)? {
+    if commands::answers(row.text(0)?) {
+        commands::answer(alloc, disk, engine, row, out)?;
         return put_after(engine, disk.made().saturating_sub(before), out);
     }
     look::answer(alloc, disk, engine, row, out)
+}
+
+// `fail CALL ..`: the calls of the disk that fail.
+fn fail(alloc: Global, disk: &mut Untold, row: &Row) -> Result<(), Stop> {
+    disk.fail(row.numbers(alloc, 1)?);
+    Ok(())
+}
+
+// `open LIMIT`
+fn open(
+    alloc: Global,
+    disk: &mut Untold,
+    engine: &mut Option<Engine>,
+    row: &Row,
+    out: &mut String,
+) -> Result<(), Stop> {
+    *engine = opened(alloc, disk, row.number(1)?, out)?;
+    Ok(())
 }
 
 impl Engines {
@@ -108,14 +127,8 @@ impl Engines {
             return Err(Stop::NoSuchRow);
         };
         match row.text(0)? {
-            "open" => {
-                self.engine = opened(alloc, disk, row.number(1)?, out)?;
-                Ok(())
-            }
-            "fail" => {
-                disk.fail(row.numbers(alloc, 1)?);
-                Ok(())
-            }
+            "open" => open(alloc, disk, &mut self.engine, row, out),
+            "fail" => fail(alloc, disk, row),
             "one" => Ok(look::put_bytes(out, disk.file(FileNo::One))?),
             "stop" => stop(alloc, disk, row, &self.steps, out),
             _ => match &mut self.engine {
@@ -123,6 +136,18 @@ impl Engines {
                 None => Err(Stop::NoSuchRow),
             },
         }
+    }
+
+    // An empty disk, and no engine.
+    fn begin(&mut self, alloc: Global) -> Result<(), Stop> {
+        self.disk = Some(Untold::new(alloc, ROOM)?);
+        self.engine = None;
+        Ok(())
+    }
+
+    fn forget_steps(&mut self) -> Result<(), Stop> {
+        self.steps.clear();
+        Ok(())
     }
 
     fn add_step(&mut self, alloc: Global, line: &str) -> Result<(), Stop> {
@@ -145,15 +170,8 @@ impl Rows for Engines {
         out: &mut String,
     ) -> Result<(), Stop> {
         match row.text(0)? {
-            "disk" => {
-                self.disk = Some(Untold::new(alloc, ROOM)?);
-                self.engine = None;
-                Ok(())
-            }
-            "steps" => {
-                self.steps = Vec::new(alloc);
-                Ok(())
-            }
+            "disk" => self.begin(alloc),
+            "steps" => self.forget_steps(),
             "step" => self.add_step(alloc, line),
             _ => self.call(alloc, row, out),
         }

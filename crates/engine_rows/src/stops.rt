@@ -6,7 +6,7 @@ use mt_disk::{CrashError, Pick};
 use mt_engine::Engine;
 use mt_rows::{Row, Stop};
 use mt_untold::Untold;
-use std::alloc::Global;
+use std::alloc::{AllocError, Global};
 
 /// A session over a disk: the engine is opened under a limit and does each step, of whose calls of the disk the one of this number
 /// fails; a crash leaves what the picks say, and the engine is opened again. Prints what each step answers, and what then stands.
@@ -38,8 +38,7 @@ fn put_session(
     steps: &[Row],
     out: &mut String,
 ) -> Result<bool, Stop> {
-    let mut numbers = Vec::new(alloc);
-    numbers.push(failing)?;
+    let numbers = one(alloc, failing)?;
     match opened(alloc, disk, limit, out)? {
         Some(engine) => {
             disk.fail(numbers);
@@ -48,6 +47,12 @@ fn put_session(
         }
         None => Ok(false),
     }
+}
+
+fn one(alloc: Global, number: u64) -> Result<Vec<u64>, AllocError> {
+    let mut numbers = Vec::new(alloc);
+    numbers.push(number)?;
+    Ok(numbers)
 }
 
 fn put_steps(
@@ -74,10 +79,7 @@ fn put_step(
     if engine.is_closed() {
         return Ok(out.push_str("closed")?);
     }
-    if !commands::answer(alloc, disk, engine, step, out)? {
-        return Err(Stop::NoSuchRow);
-    }
-    Ok(())
+    commands::answer(alloc, disk, engine, step, out)
 }
 
 fn put_left(alloc: Global, mut left: Untold, limit: u64, out: &mut String) -> Result<(), Stop> {

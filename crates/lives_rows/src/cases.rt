@@ -44,18 +44,25 @@ impl Cases {
 
     // A line of a message, with its CR LF; other bytes without.
     fn add_line(&mut self, alloc: Global, line: &str) -> Result<(), Stop> {
-        let Some(message) = self.story.messages.last_mut() else {
-            return Err(Stop::NoSuchRow);
-        };
-        if let Some(bytes) = line.strip_prefix(">| ") {
-            message.extend_from_slice(&unescaped(alloc, bytes.as_bytes())?)?;
-            return Ok(());
+        match self.story.messages.last_mut() {
+            Some(message) => put_line(alloc, message, line),
+            None => Err(Stop::NoSuchRow),
         }
-        let text = line.strip_prefix("> ").unwrap_or("");
-        message.extend_from_slice(&unescaped(alloc, text.as_bytes())?)?;
-        message.extend_from_slice(b"\r\n")?;
-        Ok(())
     }
+}
+
+// Appends the bytes of a text.
+fn put_text(alloc: Global, message: &mut Vec<u8>, text: &str) -> Result<(), Stop> {
+    let bytes = unescaped(alloc, text.as_bytes())?;
+    Ok(message.extend_from_slice(&bytes)?)
+}
+
+fn put_line(alloc: Global, message: &mut Vec<u8>, line: &str) -> Result<(), Stop> {
+    if let Some(bytes) = line.strip_prefix(">| ") {
+        return put_text(alloc, message, bytes);
+    }
+    put_text(alloc, message, line.strip_prefix("> ").unwrap_or(""))?;
+    Ok(message.extend_from_slice(b"\r\n")?)
 }
 
 impl Rows for Cases {

@@ -2,7 +2,7 @@
 use crate::replies::last_told;
 use crate::store::{Faults, Files, Left};
 use crate::story::{Place, Story};
-use mt_disk::{CrashError, Pick};
+use mt_disk::{CrashError, MemDisk, Pick};
 use mt_rows::Stop;
 use std::alloc::{AllocError, Global};
 
@@ -33,6 +33,38 @@ pub fn put_told(status: u8, said: &[u8], out: &mut String) -> Result<(), AllocEr
     }
 }
 
+// The files of the image that a crash left. Appends how the life ended that said this.
+fn put_image(
+    alloc: Global,
+    status: u8,
+    said: &[u8],
+    disk: &MemDisk,
+    out: &mut String,
+) -> Result<Option<Files>, Stop> {
+    put_told(status, said, out)?;
+    Ok(Some(Files::of(alloc, disk)?))
+}
+
+// What a crash by these picks leaves of a life that left this, if it is an image. Appends how the life ended then.
+fn put_crashed(
+    alloc: Global,
+    left: Left,
+    picks: &[Pick],
+    out: &mut String,
+) -> Result<Option<Files>, Stop> {
+    let Left {
+        status,
+        sink,
+        disk,
+        faults: _,
+    } = left;
+    match disk.crash(picks) {
+        Ok(disk) => put_image(alloc, status, sink.written(), &disk, out),
+        Err(CrashError::NotAnImage) => Ok(None),
+        Err(CrashError::Memory) => Err(Stop::Memory),
+    }
+}
+
 impl<'a> Life<'a> {
     // What a crash leaves by these picks, if they leave an image. Appends how the life ended then.
     fn left_by(
@@ -43,14 +75,7 @@ impl<'a> Life<'a> {
         out: &mut String,
     ) -> Result<Option<Files>, Stop> {
         let left = self.story.live(alloc, self.at, Faults::at(alloc, call)?)?;
-        match left.disk.crash(picks) {
-            Ok(disk) => {
-                put_told(left.status, left.sink.written(), out)?;
-                Ok(Some(Files::of(alloc, &disk)?))
-            }
-            Err(CrashError::NotAnImage) => Ok(None),
-            Err(CrashError::Memory) => Err(Stop::Memory),
-        }
+        put_crashed(alloc, left, picks, out)
     }
 
     // Appends what is found in these files. Gives where the story stands.

@@ -1,6 +1,6 @@
 //! Stops, chains of lives, and faults.
 use crate::lives::{Crash, Life, MOST_PICKS, put_told};
-use crate::store::{Faults, Files};
+use crate::store::{Faults, Files, Left};
 use crate::story::{Place, Story};
 use mt_disk::Pick;
 use mt_rows::{Row, Stop};
@@ -61,17 +61,33 @@ fn stops_of(alloc: Global, life: &Life<'_>, pick: Pick) -> Result<Vec<String>, S
     Ok(lines)
 }
 
+// The texts of a life that is stopped in each call of its disk, folded.
+fn put_lines(alloc: Global, life: &Life<'_>, pick: Pick, out: &mut String) -> Result<(), Stop> {
+    let lines = stops_of(alloc, life, pick)?;
+    put_folded(&lines, out)
+}
+
+// The life at a place, stopped in each call of its disk, and the one behind it.
+fn put_stops_at(
+    alloc: Global,
+    story: &Story,
+    at: &Place,
+    pick: Pick,
+    out: &mut String,
+) -> Result<(), Stop> {
+    let whole = story.live(alloc, at, Faults::none(alloc))?;
+    let life = Life {
+        story,
+        at,
+        whole: &whole,
+    };
+    put_lines(alloc, &life, pick, out)
+}
+
 /// The first life, stopped in each call of its disk, and the one behind it.
 pub fn put_stops(alloc: Global, story: &Story, row: &Row, out: &mut String) -> Result<(), Stop> {
     let pick = pick_of(row.text(1)?)?;
-    let at = Place::first(alloc);
-    let whole = story.live(alloc, &at, Faults::none(alloc))?;
-    let life = Life {
-        story,
-        at: &at,
-        whole: &whole,
-    };
-    put_folded(&stops_of(alloc, &life, pick)?, out)
+    put_stops_at(alloc, story, &Place::first(alloc), pick, out)
 }
 
 // The next of a row of numbers, each of which is made from the one before it.
@@ -80,6 +96,22 @@ fn next_random(state: &mut u64) -> u64 {
         .wrapping_mul(6_364_136_223_846_793_005)
         .wrapping_add(1_442_695_040_888_963_407);
     *state >> 33
+}
+
+// The crash of a life in a call that chance picks. Gives where its story stands then.
+fn put_chance(
+    alloc: Global,
+    life: &Life<'_>,
+    seed: &mut u64,
+    out: &mut String,
+) -> Result<Place, Stop> {
+    let calls = life.whole.disk.calls();
+    let call = next_random(seed).checked_rem(calls).unwrap_or(0);
+    let (name, pick) = PICKS[(next_random(seed) % 5) as usize];
+    write!(out, "\n    call {call}, {name}: ")?;
+    let most = MOST_PICKS;
+    let (place, _) = life.put_crash(alloc, Crash { call, pick, most }, out)?;
+    Ok(place)
 }
 
 // The next life of a chain, which is stopped in a call that chance picks.
@@ -91,19 +123,12 @@ fn put_link(
     out: &mut String,
 ) -> Result<Place, Stop> {
     let whole = story.live(alloc, at, Faults::none(alloc))?;
-    let call = next_random(seed)
-        .checked_rem(whole.disk.calls())
-        .unwrap_or(0);
-    let (name, pick) = PICKS[(next_random(seed) % 5) as usize];
-    write!(out, "\n    call {call}, {name}: ")?;
     let life = Life {
         story,
         at,
         whole: &whole,
     };
-    let most = MOST_PICKS;
-    let (place, _) = life.put_crash(alloc, Crash { call, pick, most }, out)?;
-    Ok(place)
+    put_chance(alloc, &life, seed, out)
 }
 
 /// Lives one after another, each but the last stopped where chance has it, which begins with the row's number.
@@ -131,13 +156,47 @@ fn faults_of(alloc: Global, row: &Row) -> Result<Faults, Stop> {
     Ok(faults)
 }
 
+// Appends what is found behind a life that left this. Gives where the story stands.
+fn put_found(
+    alloc: Global,
+    story: &Story,
+    at: &Place,
+    left: &Left,
+    out: &mut String,
+) -> Result<Place, Stop> {
+    let files = Files::of(alloc, &left.disk)?;
+    let (place, found) = story.behind(alloc, at, left.sink.written(), files)?;
+    write!(out, ", found {found}, faults {}, then ", left.faults)?;
+    Ok(place)
+}
+
+// Appends how a life ended that left this, and the one behind it.
+fn put_behind(
+    alloc: Global,
+    story: &Story,
+    at: &Place,
+    left: &Left,
+    out: &mut String,
+) -> Result<(), Stop> {
+    put_told(left.status, left.sink.written(), out)?;
+    let place = put_found(alloc, story, at, left, out)?;
+    story.put_end(alloc, &place, out)
+}
+
+// The life at a place in which something fails, and the one behind it.
+fn put_faults_at(
+    alloc: Global,
+    story: &Story,
+    at: &Place,
+    faults: Faults,
+    out: &mut String,
+) -> Result<(), Stop> {
+    let left = story.live(alloc, at, faults)?;
+    put_behind(alloc, story, at, &left, out)
+}
+
 /// A life in which something fails, and the one behind it.
 pub fn put_faults(alloc: Global, story: &Story, row: &Row, out: &mut String) -> Result<(), Stop> {
-    let at = Place::first(alloc);
-    let left = story.live(alloc, &at, faults_of(alloc, row)?)?;
-    put_told(left.status, left.sink.written(), out)?;
-    let files = Files::of(alloc, &left.disk)?;
-    let (place, found) = story.behind(alloc, &at, left.sink.written(), files)?;
-    write!(out, ", found {found}, faults {}, then ", left.faults)?;
-    story.put_end(alloc, &place, out)
+    let faults = faults_of(alloc, row)?;
+    put_faults_at(alloc, story, &Place::first(alloc), faults, out)
 }

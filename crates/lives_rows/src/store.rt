@@ -88,26 +88,25 @@ fn words_of(alloc: Global) -> Result<Vec<String>, AllocError> {
     Ok(words)
 }
 
-/// A life over a disk that holds these files, which is sent these requests, and whose children write this word.
-pub fn lived(
+// A life by these words, between a source and a sink, over a disk that holds these files.
+fn played(
     alloc: Global,
+    words: &[String],
     files: &Files,
-    requests: Vec<u8>,
-    word: Vec<u8>,
+    mut source: MemSource,
+    mut sink: MemSink,
+    says: Says,
     faults: Faults,
 ) -> Result<Left, Stop> {
     let Faults {
         script,
         disk: fails,
     } = faults;
-    let words = words_of(alloc)?;
-    let mut source = MemSource::new(alloc, requests);
-    let mut sink = MemSink::new(alloc, SINK)?;
     let mut disk = MemDisk::new(alloc, &files.head, &files.one, b"", ROOM, &fails)?;
-    let mut spawner = MemSpawner::new(alloc, Says { word }, script);
+    let mut spawner = MemSpawner::new(alloc, says, script);
     let status = mantad(
         alloc,
-        &words,
+        words,
         &mut source,
         &mut sink,
         &mut disk,
@@ -121,4 +120,18 @@ pub fn lived(
         disk,
         faults: spawner.faults(),
     })
+}
+
+/// A life over a disk that holds these files, which is sent these requests, and whose children write this word.
+pub fn lived(
+    alloc: Global,
+    files: &Files,
+    requests: Vec<u8>,
+    word: Vec<u8>,
+    faults: Faults,
+) -> Result<Left, Stop> {
+    let words = words_of(alloc)?;
+    let sink = MemSink::new(alloc, SINK)?;
+    let source = MemSource::new(alloc, requests);
+    played(alloc, &words, files, source, sink, Says { word }, faults)
 }

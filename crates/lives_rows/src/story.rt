@@ -36,19 +36,24 @@ impl Place {
     }
 }
 
-// What a session over these files says to these requests, of which nothing fails.
-fn asked(alloc: Global, files: &Files, requests: Vec<u8>) -> Result<Left, Stop> {
-    let left = lived(alloc, files, requests, Vec::new(alloc), Faults::none(alloc))?;
+// What a life said that has ended with 0.
+fn said_by(alloc: Global, left: &Left) -> Result<Vec<u8>, Stop> {
     match left.status {
-        0 => Ok(left),
+        0 => Ok(Vec::from_slice(alloc, left.sink.written())?),
         _ => Err(Stop::NoSuchRow),
     }
 }
 
+// What a session over these files says to these requests, of which nothing fails.
+fn asked(alloc: Global, files: &Files, requests: Vec<u8>) -> Result<Vec<u8>, Stop> {
+    let left = lived(alloc, files, requests, Vec::new(alloc), Faults::none(alloc))?;
+    said_by(alloc, &left)
+}
+
 /// The last position of a store.
 pub fn found_in(alloc: Global, files: &Files) -> Result<u64, Stop> {
-    let left = asked(alloc, files, Vec::from_slice(alloc, PROBE)?)?;
-    match last_told(left.sink.written()) {
+    let said = asked(alloc, files, Vec::from_slice(alloc, PROBE)?)?;
+    match last_told(&said) {
         Some(found) => Ok(found),
         None => Err(Stop::NoSuchRow),
     }
@@ -70,6 +75,20 @@ fn get_each(alloc: Global, lines: &[u8]) -> Result<Vec<u8>, AllocError> {
         }
     }
     Ok(requests)
+}
+
+// What a session says of what stands at each of these lines.
+fn asked_each(alloc: Global, files: &Files, lines: &[u8]) -> Result<Vec<u8>, Stop> {
+    let requests = get_each(alloc, lines)?;
+    asked(alloc, files, requests)
+}
+
+// Appends the position that these replies tell, and what stands at each line of the last one's body.
+fn put_listed(alloc: Global, files: &Files, said: &[u8], out: &mut String) -> Result<(), Stop> {
+    let told = last_told(said).unwrap_or(0);
+    write!(out, " at {told}:")?;
+    let bodies = asked_each(alloc, files, body_of(said))?;
+    put_bodies(&bodies, out)
 }
 
 impl Story {
@@ -128,17 +147,20 @@ impl Story {
 
     // Appends the last position of a store, and the outputs of the job.
     fn put_outputs(&self, alloc: Global, files: &Files, out: &mut String) -> Result<(), Stop> {
-        let names = asked(alloc, files, get_each(alloc, &self.out)?)?;
-        let said = names.sink.written();
-        write!(out, " at {}:", last_told(said).unwrap_or(0))?;
-        let bodies = asked(alloc, files, get_each(alloc, body_of(said))?)?;
-        put_bodies(bodies.sink.written(), out)
+        let names = asked_each(alloc, files, &self.out)?;
+        put_listed(alloc, files, &names, out)
+    }
+
+    // Appends what a life ended with, and what it left.
+    fn put_left(&self, alloc: Global, left: &Left, out: &mut String) -> Result<(), Stop> {
+        write!(out, "status {}", left.status)?;
+        let files = Files::of(alloc, &left.disk)?;
+        self.put_outputs(alloc, &files, out)
     }
 
     /// Appends what the last life ends with, of which nothing fails, and what it leaves.
     pub fn put_end(&self, alloc: Global, at: &Place, out: &mut String) -> Result<(), Stop> {
         let left = self.live(alloc, at, Faults::none(alloc))?;
-        write!(out, "status {}", left.status)?;
-        self.put_outputs(alloc, &Files::of(alloc, &left.disk)?, out)
+        self.put_left(alloc, &left, out)
     }
 }

@@ -1,7 +1,8 @@
 -- A job that is cancelled: its texts and their room.
 use Rattle.std.proofs.Common.{◌≡◌, ◌⊎◌, ◌≤◌, ◌<◌, ℕ, ◌+◌, Bool, false, true, inl, inr, List, ◌++◌, length, Option, Some, None, refl, sym, ap, ◌∙◌, arith, true≢false}
-use Rattle.std.specs.Prelude.{is_some, nat_le, nat_lt, option_map}
+use Rattle.std.specs.Prelude.{is_some, nat_le, nat_lt, option_map, IsTrue}
 use Rattle.std.specs.Option.{option_map_or}
+use Rattle.std.proofs.lemmas.Bool.{le-leb}
 use Rattle.std.proofs.lemmas.Bool.Decides.{nat_tests}
 use Rattle.md5.specs.Md5.{md5}
 use Rattle.mt_answer.specs.JobAnswer.{archive_asked, archive_size, brought_size, job_command_of, job_growth, refuse_job}
@@ -10,7 +11,9 @@ use Rattle.mt_answer.specs.Posting.{posted_of}
 use Rattle.mt_body.specs.Growth.{archive_pieces, growth}
 use Rattle.mt_body.specs.Stored.{pieces_size}
 use Rattle.mt_body.proofs.Keeping.{length-bytes_of}
+use Rattle.mt_base.specs.declared.limits.TheConstants.{LAST_MOMENT}
 use Rattle.mt_codec.specs.Pieces.{spelled_size}
+use Rattle.mt_codec.specs.Spelling.{FitsArchive, IsWithinLimits}
 use Rattle.mt_disk.specs.Files.{Files}
 use Rattle.mt_engine.specs.Accepting.{HasRoomFor}
 use Rattle.mt_engine.specs.Archiving.{AreTextsOf, ArchiveIn, texts_size}
@@ -22,9 +25,11 @@ use Rattle.mt_error.specs.declared.code.ErrorCode.TheVariants as error
 use Rattle.mt_jobtext.specs.JobTexts.{archive_of}
 use Rattle.mt_log.specs.RunState.{RunState}
 use Rattle.mt_model.specs.CommandStep.{replay}
+use Rattle.mt_model.specs.Bodies.{OfArchive}
 use Rattle.mt_model.specs.JobSteps.{done_at}
 use Rattle.mt_model.specs.State.{State, job_at}
 use Rattle.mt_request.specs.declared.jobs.JobDoing.{JobDoing}
+use Rattle.mt_types.specs.Limits.{is_number, is_placed}
 use Rattle.mt_types.specs.declared.body.Body.{Body}
 use Rattle.mt_types.specs.declared.command.Archive.{Archive}
 use Rattle.mt_types.specs.declared.command.Command.{Command}
@@ -40,6 +45,20 @@ use Rattle.mt_api.proofs.Jobs.{job_full}
 close_size : {A B : Type 0} (job : ℕ) (a : Archive A) (b : Archive B) (moment : ℕ) → spelled_size (Close job true a moment) ≡ spelled_size (Close job true b moment)
 unfolding spelled_size
 close_size job a b moment = refl
+
+-- five bodies that are placed fit
+pub archive_fits : (a : Archive Body) → OfArchive (λ b. IsTrue (is_placed b)) a → FitsArchive false a
+archive_fits a p = record {
+  err = record { placed = p.err; first = tt; len = tt };
+  fail = record { placed = p.fail; first = tt; len = tt };
+  input = record { placed = p.input; first = tt; len = tt };
+  status = record { placed = p.status; first = tt; len = tt };
+  out = record { placed = p.out; first = tt; len = tt };
+}
+
+-- and the command that has them is within its limits
+pub close_limits : (job moment : ℕ) (a : Archive Body) → IsTrue (is_number job) → FitsArchive false a → moment ≤ LAST_MOMENT → IsWithinLimits (Close job true a moment)
+close_limits job moment a number fits most = record { moment = le-leb moment LAST_MOMENT most; fields = (number, fits) }
 
 -- room for it is room for any
 pub room_any : (engine : EngineState) (pieces job moment : ℕ) (blank : Archive Body) → HasRoomFor engine pieces (Close job true blank moment) → (a : Archive Body) → HasRoomFor engine pieces (Close job true a moment)

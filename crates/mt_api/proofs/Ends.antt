@@ -1,7 +1,6 @@
 -- A run that is ended without a command, and the answer to it.
 use Rattle.std.proofs.Common.{◌≡◌, ◌≢◌, ℕ, ◌+◌, false, inl, inr, [], ◌++◌, Option, refl, sym, ap, ◌∙◌, subst, append_assoc, append-nil, arith}
 use Rattle.mt_answer.specs.Answer.{Answer}
-use Rattle.mt_base.specs.Counts.{Rose}
 use Rattle.mt_base.specs.Lists.{IsPrefixOf}
 use Rattle.mt_body.specs.Stored.{bytes_of}
 use Rattle.mt_disk.specs.Files.{Files}
@@ -93,6 +92,11 @@ pub held_ended : (result answer : Answered) (engine : EngineState) (run : RunSta
 held_ended result answer engine run engine' (inl e) held = subst AreHeld (sym e.0) held
 held_ended result answer engine run engine' (inr e) held = subst AreHeld (sym e.0) tt
 
+-- and so ends the body as what was to be answered says
+pub ended_over : (result answer : Answered) (engine : EngineState) (run : RunState) (engine' : EngineState) (stage : Stage) → EndsWith result answer engine run engine' → EndsBody answer stage → EndsBody result stage
+ended_over result answer engine run engine' stage (inl e) over = subst (λ (r : Answered). EndsBody r stage) (sym e.0) over
+ended_over result answer engine run engine' stage (inr e) over = subst (λ (r : Answered). EndsBody r stage) (sym e.0) tt
+
 pub settled_replied : (result : Answered) (said : Reply Body) → Replies result said → IsSettled result
 settled_replied (answered.Replied reply) said is = tt
 settled_replied (answered.Unfinished e) said is = is
@@ -130,11 +134,6 @@ not_disk answered.Memory said is e = cc
 
 -- ---- engines
 
-live_ended : (result answer : Answered) (engine : EngineState) (run : RunState) (engine' : EngineState) → engine.log.closed ≡ false → EndsWith result answer engine run engine'
-    → result ≢ answered.Disk → result ≢ answered.Memory → engine'.log.closed ≡ false
-live_ended result answer engine run engine' is_open (inl e) d m = ap (λ (x : EngineState). x.log.closed) e.1 ∙ is_open
-live_ended result answer engine run engine' is_open (inr e) d m = absurd (d e.0)
-
 module _ {D : Type 0} (seen : D → Option Files) (may_leave : D → Files → Type 0) (count : D → ℕ) where
   -- an engine that isn't called
   pub idle_keeps : (disk : D) (result : Answered) (engine : EngineState) → engine.log.closed ≡ false → Stands seen may_leave disk engine.log → result ≢ answered.Disk
@@ -145,12 +144,6 @@ module _ {D : Type 0} (seen : D → Option Files) (may_leave : D → Files → T
     live = λ d m. is_open;
     disk = λ d. absurd (not d);
   }
-
-  -- one whose run is ended without a command
-  pub ended_keeps : (old new : D) (result answer : Answered) (engine : EngineState) (run : RunState) (engine' : EngineState) → engine.log.closed ≡ false → EndsWith result answer engine run engine'
-      → EngineStays seen count old new engine engine' → Stands seen may_leave new engine'.log → (result ≡ answered.Disk → Rose (count old) (count new)) → StepKeeps seen may_leave count old new result engine engine'
-  ended_keeps old new result answer engine run engine' is_open ends stays stands disk =
-      record { stays = stays; stands = stands; live = live_ended result answer engine run engine' is_open ends; disk = disk }
 
   -- and one behind a call that left it open
   pub behind_keeps : (old mid new : D) (result : Answered) (before engine engine' : EngineState) → engine.log.closed ≡ false → EngineStays seen count old mid before engine

@@ -1,16 +1,18 @@
 -- What the steps of an answer ask of what they are given, and what they all keep.
-use Rattle.std.specs.Prelude.{◌≡◌, ◌≢◌, ℕ, ◌≤◌, false, IsTrue, Option}
+use Rattle.std.specs.Prelude.{◌≡◌, ◌≢◌, ℕ, ◌≤◌, false, IsTrue, List, Option}
 use Rattle.mt_base.specs.Counts.{Rose}
 use Rattle.mt_base.specs.declared.limits.TheConstants.{LAST_MOMENT}
 use Rattle.mt_disk.specs.Files.{Files}
 use Rattle.mt_engine.specs.Current.{EngineState}
 use Rattle.mt_engine.specs.Ready.{EngineIsReady, EngineStays, RunIsReady}
+use Rattle.mt_http.specs.Further.{BodyGoesOn}
+use Rattle.mt_http.specs.declared.stream.BodyStream.{BodyStream}
 use Rattle.mt_log.specs.LogState.{Stands}
 use Rattle.mt_log.specs.RunState.{RunState}
 use Rattle.mt_request.specs.Laws.{FitsDoing}
 use Rattle.mt_types.specs.Limits.{is_placed}
 use Rattle.mt_types.specs.declared.body.Body.{Body}
-use Rattle.mt_api.specs.Answered.{CanBeSent}
+use Rattle.mt_api.specs.Answered.{CanBeSent, EndsBody}
 use Rattle.mt_api.specs.Steps.{AreHeld, IsSettled}
 use Rattle.mt_api.specs.declared.answered.Answered.{Answered}
 use Rattle.mt_api.specs.declared.answered.Answered.TheVariants as answered
@@ -48,3 +50,11 @@ pub record SettlesCall {D : Type 0} (seen : D → Option Files) (may_leave : D �
   pub keeps : StepKeeps seen may_leave count old new result engine engine'
   pub is_settled : IsSettled result
   pub sends : CanBeSent result (seen new) engine'
+
+-- And one that reads the body of what it answers: a reply is given only behind a body that was read to its end, and what the reply
+-- has can be sent.
+pub record AnswerGoesOn {D X : Type 0} (seen : D → Option Files) (may_leave : D → Files → Type 0) (count : D → ℕ) (left : X → Option (List ℕ)) (reads : X → ℕ) (alone : X → X → Type 0) (old new : D) (stream stream' : BodyStream X) (result : Answered) (engine engine' : EngineState) : Type 0 where
+  pub over : EndsBody result stream'.framer.stage
+  pub sends : CanBeSent result (seen new) engine'
+  pub keeps : StepKeeps seen may_leave count old new result engine engine'
+  pub body : BodyGoesOn left reads alone stream stream' (result ≡ answered.SourceFault)

@@ -1,13 +1,12 @@
 //! The end of a job that is cancelled: its texts are stored where they and its command have room.
-ghost use Rattle.std.specs.Prelude.{◌≡◌, ◌≤◌, IsTrue, None, Some, false, true};
+ghost use Rattle.std.specs.Prelude.{◌≡◌, None, Some, false, true};
 ghost use Rattle.md5.specs.Md5.{md5};
-ghost use Rattle.mt_account.specs.Taken.{IsTaken};
 ghost use Rattle.mt_answer.specs.Posting.{posted_of};
 ghost use Rattle.mt_api.specs.Answered.{Asked, answer_at, used};
 ghost use Rattle.mt_api.specs.GoingOn.{SettlesCall};
 ghost use Rattle.mt_api.specs.Jobs.{CancelsJob, IsJobCallOf, JobCallIsReady, job_refusal};
 ghost use Rattle.mt_api.specs.Steps.{Settles};
-ghost use Rattle.mt_codec.specs.Spelling.{FitsArchive, IsWithinLimits};
+ghost use Rattle.mt_codec.specs.Spelling.{FitsArchive};
 ghost use Rattle.mt_disk.specs.CrashModel.{LeavesOnly};
 ghost use Rattle.mt_engine.specs.Accepting.{HasRoomFor};
 ghost use Rattle.mt_engine.specs.Archiving.{texts_size};
@@ -15,8 +14,6 @@ ghost use Rattle.mt_engine.specs.Current.{IsBetween, IsCurrent};
 ghost use Rattle.mt_engine.specs.History.{Bytes, History};
 ghost use Rattle.mt_model.specs.CommandStep.{replay};
 ghost use Rattle.mt_model.specs.State.{State};
-ghost use Rattle.mt_types.specs.Kinds.{kind_of};
-ghost use Rattle.mt_types.specs.Limits.{is_number};
 ghost use Rattle.mt_types.specs.declared.body.Body.{Body};
 ghost use Rattle.mt_types.specs.declared.command.Archive.{Archive};
 ghost use Rattle.mt_types.specs.declared.command.Command.TheVariants.{Close};
@@ -26,7 +23,6 @@ use crate::call::JobCall;
 use crate::job_change::{add_job, give_up};
 use crate::perform::NO_BODY;
 use crate::refuse::refuse;
-use mt_base::LAST_MOMENT;
 use mt_disk::Disk;
 use mt_engine::{Archiving, Engine};
 use mt_error::{ErrorCode, Refused};
@@ -48,12 +44,7 @@ fn blank_archive() -> Archive<Body>
 
 // The command that cancels a job.
 fn close_command(job: u64, archive: Archive<Body>, moment: u64) -> Command<Body>
-    requires job { IsTrue (is_number job) }
-    requires archive { FitsArchive false archive }
-    requires moment { moment ≤ LAST_MOMENT }
     ensures command { result ≡ Close job true archive moment }
-    ensures kind { IsTaken (kind_of result) }
-    ensures limits { IsWithinLimits result }
 {
     Command::Close {
         job,

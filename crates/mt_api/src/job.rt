@@ -4,9 +4,8 @@ ghost use Rattle.md5.specs.Md5.{md5};
 ghost use Rattle.mt_answer.specs.JobAnswer.{job_reply_to};
 ghost use Rattle.mt_answer.specs.JobLaws.{FitsPosted, NamesNumber};
 ghost use Rattle.mt_answer.specs.Posting.{posted_of};
-ghost use Rattle.mt_api.specs.Answered.{Asked, CanBeSent, EndsBody, answer_at, used};
-ghost use Rattle.mt_api.specs.GoingOn.{SettlesCall, StepKeeps};
-ghost use Rattle.mt_http.specs.Further.{BodyGoesOn};
+ghost use Rattle.mt_api.specs.Answered.{Asked, answer_at, used};
+ghost use Rattle.mt_api.specs.GoingOn.{AnswerGoesOn, SettlesCall};
 ghost use Rattle.mt_api.specs.Jobs.{AsksFor, IsJobCallOf, JobCallIsReady, JobIsTaken, cancelled_job, holds_body, job_refusal};
 ghost use Rattle.mt_api.specs.Steps.{Goes, Replies, Settles};
 ghost use Rattle.mt_disk.specs.CrashModel.{LeavesOnly};
@@ -243,10 +242,7 @@ fn answer_held<D: Disk, S: Source>(
     ensures goes { (base : State Bytes) (h : History) (asked : Asked) → IsCurrent (D.seen disk.old) engine.old base h → IsJobCallOf login.now asked engine.old call →
         (k : History) × Goes result asked engine.old base h (body_left stream.old.framer (S.left stream.old.source.now)) stream.new.framer.stage (D.seen disk.new) engine.new k
         × LeavesOnly D.moment D.left_since disk.old disk.new (IsBetween base h k) }
-    ensures over { EndsBody result stream.new.framer.stage }
-    ensures sends { CanBeSent result (D.seen disk.new) engine.new }
-    ensures keeps { StepKeeps D.seen D.may_leave D.faults disk.old disk.new result engine.old engine.new }
-    ensures body { BodyGoesOn S.left S.read_faults S.source_stays stream.old stream.new (result ≡ Answered.SourceFault) }
+    ensures goes_on { AnswerGoesOn D.seen D.may_leave D.faults S.left S.read_faults S.source_stays disk.old disk.new stream.old stream.new result engine.old engine.new }
 {
     match hold_body(alloc, stream) {
         Held::Whole(bytes) => return judge_held(alloc, login, engine, disk, call, bytes),
@@ -270,10 +266,7 @@ fn answer_dropped<D: Disk, S: Source>(
     ensures goes { (base : State Bytes) (h : History) (asked : Asked) → IsCurrent (D.seen disk.old) engine.old base h → IsJobCallOf login.now asked engine.old call →
         (k : History) × Goes result asked engine.old base h (body_left stream.old.framer (S.left stream.old.source.now)) stream.new.framer.stage (D.seen disk.new) engine.new k
         × LeavesOnly D.moment D.left_since disk.old disk.new (IsBetween base h k) }
-    ensures over { EndsBody result stream.new.framer.stage }
-    ensures sends { CanBeSent result (D.seen disk.new) engine.new }
-    ensures keeps { StepKeeps D.seen D.may_leave D.faults disk.old disk.new result engine.old engine.new }
-    ensures body { BodyGoesOn S.left S.read_faults S.source_stays stream.old stream.new (result ≡ Answered.SourceFault) }
+    ensures goes_on { AnswerGoesOn D.seen D.may_leave D.faults S.left S.read_faults S.source_stays disk.old disk.new stream.old stream.new result engine.old engine.new }
 {
     match read_rest(&call.request.wish, stream) {
         Rest::Whole(digest) => {
@@ -305,10 +298,7 @@ pub(crate) fn answer_job<D: Disk, S: Source>(
     ensures goes { (base : State Bytes) (h : History) (asked : Asked) → IsCurrent (D.seen disk.old) engine.old base h → IsJobCallOf login.now asked engine.old call →
         (k : History) × Goes result asked engine.old base h (body_left stream.old.framer (S.left stream.old.source.now)) stream.new.framer.stage (D.seen disk.new) engine.new k
         × LeavesOnly D.moment D.left_since disk.old disk.new (IsBetween base h k) }
-    ensures over { EndsBody result stream.new.framer.stage }
-    ensures sends { CanBeSent result (D.seen disk.new) engine.new }
-    ensures keeps { StepKeeps D.seen D.may_leave D.faults disk.old disk.new result engine.old engine.new }
-    ensures body { BodyGoesOn S.left S.read_faults S.source_stays stream.old stream.new (result ≡ Answered.SourceFault) }
+    ensures goes_on { AnswerGoesOn D.seen D.may_leave D.faults S.left S.read_faults S.source_stays disk.old disk.new stream.old stream.new result engine.old engine.new }
 {
     if holds_body(&call.request) {
         return answer_held(alloc, login, engine, disk, call, stream);

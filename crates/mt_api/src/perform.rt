@@ -3,7 +3,7 @@ ghost use Rattle.std.specs.Prelude.{◌≡◌, ◌≤◌, Some, None};
 ghost use Rattle.md5.specs.Md5.{md5};
 ghost use Rattle.mt_answer.specs.Judging.{len_of, md5_of};
 ghost use Rattle.mt_answer.specs.Answer as words;
-ghost use Rattle.mt_api.specs.Answered.{Asked, CanBeSent, EndsBody, answer_at, used};
+ghost use Rattle.mt_api.specs.Answered.{Asked, answer_at, used};
 ghost use Rattle.mt_api.specs.Steps.{Goes, IsCallOf, IsPlain, Replies, Settles, refusal};
 ghost use Rattle.mt_disk.specs.CrashModel.{LeavesOnly};
 ghost use Rattle.mt_engine.specs.Current.{IsBetween, IsCurrent};
@@ -12,8 +12,7 @@ ghost use Rattle.mt_http.specs.BodyReading.{body_left};
 ghost use Rattle.mt_model.specs.CommandStep.{replay};
 ghost use Rattle.mt_model.specs.State.{State};
 ghost use Rattle.mt_request.specs.Digest.{digest_refusal};
-ghost use Rattle.mt_api.specs.GoingOn.{CallIsReady, SettlesCall, StepKeeps};
-ghost use Rattle.mt_http.specs.Further.{BodyGoesOn};
+ghost use Rattle.mt_api.specs.GoingOn.{AnswerGoesOn, CallIsReady, SettlesCall};
 
 use crate::answered::Answered;
 use crate::bodies::{Rest, read_rest};
@@ -112,10 +111,7 @@ pub(crate) fn answer_unstored<D: Disk, S: Source>(
     ensures goes { (base : State Bytes) (h : History) (asked : Asked) → IsCurrent (D.seen disk.old) engine.old base h → IsPlain engine.old call → IsCallOf asked engine.old call →
         (k : History) × Goes result asked engine.old base h (body_left stream.old.framer (S.left stream.old.source.now)) stream.new.framer.stage (D.seen disk.new) engine.new k
         × LeavesOnly D.moment D.left_since disk.old disk.new (IsBetween base h k) }
-    ensures over { EndsBody result stream.new.framer.stage }
-    ensures sends { CanBeSent result (D.seen disk.new) engine.new }
-    ensures keeps { StepKeeps D.seen D.may_leave D.faults disk.old disk.new result engine.old engine.new }
-    ensures body { BodyGoesOn S.left S.read_faults S.source_stays stream.old stream.new (result ≡ Answered.SourceFault) }
+    ensures goes_on { AnswerGoesOn D.seen D.may_leave D.faults S.left S.read_faults S.source_stays disk.old disk.new stream.old stream.new result engine.old engine.new }
 {
     match read_rest(&call.request.wish, stream) {
         Rest::Whole(digest) => judge_unstored(alloc, engine, disk, call, digest),

@@ -1,8 +1,8 @@
 //! A put of an object: its body is stored in a run, which its command ends.
 ghost use Rattle.std.specs.Prelude.{◌≡◌, ◌≤◌, ℕ, List, Option, Some};
 ghost use Rattle.md5.specs.Md5.{Holds};
-ghost use Rattle.mt_api.specs.Answered.{Asked, EndsBody, answer_at, used};
-ghost use Rattle.mt_api.specs.Steps.{AreHeld, Goes, HasNoRoom, IsAll, IsCallOf, IsWhole, Settles, StoresBody, refusal, without_room};
+ghost use Rattle.mt_api.specs.Answered.{Asked, answer_at, used};
+ghost use Rattle.mt_api.specs.Steps.{Goes, HasNoRoom, IsAll, IsCallOf, IsWhole, Settles, StoresBody, refusal, without_room};
 ghost use Rattle.mt_disk.specs.CrashModel.{LeavesOnly};
 ghost use Rattle.mt_edge.specs.Stream.{LeftAfter};
 ghost use Rattle.mt_engine.specs.Current.{IsBetween, IsCurrent};
@@ -10,8 +10,7 @@ ghost use Rattle.mt_engine.specs.History.{Bytes, History};
 ghost use Rattle.mt_http.specs.BodyReading.{body_left};
 ghost use Rattle.mt_model.specs.CommandStep.{replay};
 ghost use Rattle.mt_model.specs.State.{State};
-ghost use Rattle.mt_api.specs.GoingOn.{CallInRun, CallIsReady, SettlesInRun, StepKeeps};
-ghost use Rattle.mt_http.specs.Further.{BodyGoesOn};
+ghost use Rattle.mt_api.specs.GoingOn.{AnswerGoesOn, CallInRun, CallIsReady, SettlesInRun};
 ghost use Rattle.mt_engine.specs.Ready.{RunIsReady};
 
 use crate::answered::Answered;
@@ -86,10 +85,7 @@ fn finish_body<D: Disk, S: Source>(
         IsWhole (D.seen disk.old) engine.old run base h qs body bytes → IsAll left bytes →
         (k : History) × Goes result asked engine.old base h left stream.new.framer.stage (D.seen disk.new) engine.new k
         × LeavesOnly D.moment D.left_since disk.old disk.new (IsBetween base h k) }
-    ensures over { EndsBody result stream.new.framer.stage }
-    ensures held { AreHeld result }
-    ensures keeps { StepKeeps D.seen D.may_leave D.faults disk.old disk.new result engine.old engine.new }
-    ensures body { BodyGoesOn S.left S.read_faults S.source_stays stream.old stream.new (result ≡ Answered.SourceFault) }
+    ensures goes_on { AnswerGoesOn D.seen D.may_leave D.faults S.left S.read_faults S.source_stays disk.old disk.new stream.old stream.new result engine.old engine.new }
 {
     match end_body(stream) {
         BodyEnd::Whole => judge_digest(alloc, engine, disk, run, call, body),
@@ -117,10 +113,7 @@ fn refuse_for_room<D: Disk, S: Source>(
         LeftAfter left bytes (body_left stream.old.framer (S.left stream.old.source.now)) →
         (k : History) × Goes result asked engine.old base h left stream.new.framer.stage (D.seen disk.new) engine.new k
         × LeavesOnly D.moment D.left_since disk.old disk.new (IsBetween base h k) }
-    ensures over { EndsBody result stream.new.framer.stage }
-    ensures held { AreHeld result }
-    ensures keeps { StepKeeps D.seen D.may_leave D.faults disk.old disk.new result engine.old engine.new }
-    ensures body { BodyGoesOn S.left S.read_faults S.source_stays stream.old stream.new (result ≡ Answered.SourceFault) }
+    ensures goes_on { AnswerGoesOn D.seen D.may_leave D.faults S.left S.read_faults S.source_stays disk.old disk.new stream.old stream.new result engine.old engine.new }
 {
     match digest_body(stream, &mut sum) {
         BodyEnd::Whole => {
@@ -147,10 +140,7 @@ pub(crate) fn put<D: Disk, S: Source>(
     ensures goes { (base : State Bytes) (h : History) (asked : Asked) → IsCurrent (D.seen disk.old) engine.old base h → IsCallOf asked engine.old call →
         (k : History) × Goes result asked engine.old base h (body_left stream.old.framer (S.left stream.old.source.now)) stream.new.framer.stage (D.seen disk.new) engine.new k
         × LeavesOnly D.moment D.left_since disk.old disk.new (IsBetween base h k) }
-    ensures over { EndsBody result stream.new.framer.stage }
-    ensures held { AreHeld result }
-    ensures keeps { StepKeeps D.seen D.may_leave D.faults disk.old disk.new result engine.old engine.new }
-    ensures body { BodyGoesOn S.left S.read_faults S.source_stays stream.old stream.new (result ≡ Answered.SourceFault) }
+    ensures goes_on { AnswerGoesOn D.seen D.may_leave D.faults S.left S.read_faults S.source_stays disk.old disk.new stream.old stream.new result engine.old engine.new }
 {
     let mut run = engine.begin_run(disk);
     let mut sum = Md5::new();

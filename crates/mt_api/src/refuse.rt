@@ -1,15 +1,13 @@
 //! The end of a run without a command, and refusals.
 ghost use Rattle.std.specs.Prelude.{◌≡◌, ◌≢◌, ◌≤◌, ◌+◌, ℕ, List, []};
 ghost use Rattle.mt_api.specs.Steps.{EndsWith, Replies, Settles};
-ghost use Rattle.mt_base.specs.Counts.{Rose};
 ghost use Rattle.mt_disk.specs.CrashModel.{LeavesOnly};
 ghost use Rattle.mt_engine.specs.Current.{IsCurrent, IsWriting};
 ghost use Rattle.mt_engine.specs.History.{Bytes, HasHistory, History};
-ghost use Rattle.mt_log.specs.LogState.{Stands};
 ghost use Rattle.mt_model.specs.State.{State};
 ghost use Rattle.mt_reply.specs.Replies as words;
-ghost use Rattle.mt_api.specs.GoingOn.{SettlesInRun};
-ghost use Rattle.mt_engine.specs.Ready.{EngineStays, RunIsReady};
+ghost use Rattle.mt_api.specs.GoingOn.{SettlesInRun, StepKeeps};
+ghost use Rattle.mt_engine.specs.Ready.{RunIsReady};
 
 use crate::answered::Answered;
 use mt_base::LAST_MOMENT;
@@ -34,9 +32,7 @@ pub(crate) fn end_with<D: Disk>(
         result ≢ Answered.Disk → IsCurrent (D.seen disk.new) engine.new base h }
     ensures any_moment { (base : State Bytes) (h : History) (qs : List (List ℕ)) → IsWriting (D.seen disk.old) engine.old run base h qs →
         LeavesOnly D.moment D.left_since disk.old disk.new (HasHistory base h) }
-    ensures stands { Stands D.seen D.may_leave disk.new engine.new.log }
-    ensures keeps { EngineStays D.seen D.faults disk.old disk.new engine.old engine.new }
-    ensures disk { result ≡ Answered.Disk → Rose (D.faults disk.old) (D.faults disk.new) }
+    ensures keeps { StepKeeps D.seen D.may_leave D.faults disk.old disk.new result engine.old engine.new }
 {
     match engine.end_run(disk, run) {
         RunEnd::Done => answer,

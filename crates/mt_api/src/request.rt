@@ -1,17 +1,15 @@
 //! The answer to a request.
-ghost use Rattle.std.specs.Prelude.{◌≡◌, ◌≢◌, ◌≤◌, false, length, IfOk, IfSome, List, Option, ℕ};
+ghost use Rattle.std.specs.Prelude.{◌≡◌, ◌≤◌, length, IfOk, IfSome, List, Option, ℕ};
 ghost use Rattle.mt_answer.specs.Answer.{stamp_of};
-ghost use Rattle.mt_api.specs.Answered.{Answers, CanBeSent, EndsBody, Hears, said};
-ghost use Rattle.mt_api.specs.GoingOn.{StepKeeps};
+ghost use Rattle.mt_api.specs.Answered.{Answers, Hears, said};
+ghost use Rattle.mt_api.specs.GoingOn.{AnswerGoesOn};
 ghost use Rattle.mt_api.specs.Steps.{Goes, IsCallOf};
-ghost use Rattle.mt_base.specs.Counts.{Rose};
 ghost use Rattle.mt_disk.specs.CrashModel.{LeavesOnly};
-ghost use Rattle.mt_engine.specs.Current.{IsBetween, IsCurrent};
+ghost use Rattle.mt_engine.specs.Current.{IsBetween, IsCurrent, Serves};
 ghost use Rattle.mt_engine.specs.History.{Bytes, History};
-ghost use Rattle.mt_engine.specs.Ready.{EngineGoesOn, EngineIsReady};
+ghost use Rattle.mt_engine.specs.Ready.{EngineIsReady};
 ghost use Rattle.mt_http.specs.Body.{Told};
 ghost use Rattle.mt_http.specs.BodyReading.{body_left};
-ghost use Rattle.mt_http.specs.Further.{BodyGoesOn};
 ghost use Rattle.mt_model.specs.State.{State};
 ghost use Rattle.mt_request.specs.Laws.{FitsDoing};
 ghost use Rattle.mt_request.specs.Requests.{asked_of};
@@ -31,7 +29,7 @@ use mt_engine::Engine;
 use mt_http::{BodyStream, Head, closes};
 use mt_reply::Stamp;
 use mt_request::laws::asked_within_limits;
-use mt_request::{Asked, JobRequest, Request, asked_of};
+use mt_request::{Asked, Request, asked_of};
 use std::alloc::{AllocError, Global};
 
 // What every reply to a head says, with the position before it.
@@ -83,10 +81,7 @@ fn answer_rows<D: Disk, S: Source>(
     ensures goes { (login : List ℕ) (told : Option Told) (base : State Bytes) (h : History) → IsCurrent (D.seen disk.old) engine.old base h → asked_of login head.now ≡ head_asks.Rows request →
         (k : History) × Goes result (record { login = login; head = head.now; body = told; moment = now }) engine.old base h (body_left body.old.framer (S.left body.old.source.now)) body.new.framer.stage (D.seen disk.new) engine.new k
         × LeavesOnly D.moment D.left_since disk.old disk.new (IsBetween base h k) }
-    ensures over { EndsBody result body.new.framer.stage }
-    ensures sends { CanBeSent result (D.seen disk.new) engine.new }
-    ensures keeps { StepKeeps D.seen D.may_leave D.faults disk.old disk.new result engine.old engine.new }
-    ensures body { BodyGoesOn S.left S.read_faults S.source_stays body.old body.new (result ≡ Answered.SourceFault) }
+    ensures goes_on { AnswerGoesOn D.seen D.may_leave D.faults S.left S.read_faults S.source_stays disk.old disk.new body.old body.new result engine.old engine.new }
 {
     let call = match read_call(alloc, engine, request, head, now) {
         Ok(call) => call,
@@ -97,31 +92,6 @@ fn answer_rows<D: Disk, S: Source>(
     } else {
         answer_unstored(alloc, engine, disk, call, body)
     }
-}
-
-// Answers what is asked of jobs.
-fn answer_jobs<D: Disk, S: Source>(
-    alloc: Global,
-    login: &str,
-    engine: &mut Engine,
-    disk: &mut D,
-    request: JobRequest,
-    head: &Head,
-    body: &mut BodyStream<'_, S>,
-    now: u64,
-) -> Answered
-    requires ready { EngineIsReady D.seen D.may_leave disk.old engine.old }
-    requires moment { now ≤ LAST_MOMENT }
-    ensures goes { (told : Option Told) (base : State Bytes) (h : History) → IsCurrent (D.seen disk.old) engine.old base h → asked_of login.now head.now ≡ head_asks.Jobs request →
-        (k : History) × Goes result (record { login = login.now; head = head.now; body = told; moment = now }) engine.old base h (body_left body.old.framer (S.left body.old.source.now)) body.new.framer.stage (D.seen disk.new) engine.new k
-        × LeavesOnly D.moment D.left_since disk.old disk.new (IsBetween base h k) }
-    ensures over { EndsBody result body.new.framer.stage }
-    ensures sends { CanBeSent result (D.seen disk.new) engine.new }
-    ensures keeps { StepKeeps D.seen D.may_leave D.faults disk.old disk.new result engine.old engine.new }
-    ensures body { BodyGoesOn S.left S.read_faults S.source_stays body.old body.new (result ≡ Answered.SourceFault) }
-{
-    let stamp = stamp_of(engine, head, now);
-    answer_job(alloc, login, engine, disk, JobCall { request, stamp }, body)
 }
 
 /// Answers a request at a moment. Its body is read to its end first: that of an object is stored where only its digest or the want of room
@@ -141,17 +111,13 @@ pub fn answer<D: Disk, S: Source>(
     requires moment { now ≤ LAST_MOMENT }
     // Of the body, where the source tells it, over any disk.
     ensures hears { IfSome (said body.old.framer (S.left body.old.source.now)) (λ t. Hears result t (S.left body.new.source.now)) }
-    ensures over { EndsBody result body.new.framer.stage }
     // Over a disk that tells what it holds: what the history leads to, and what a crash at any moment of the call leaves.
     ensures answers { (base : State Bytes) (h : History) → IsCurrent (D.seen disk.old) engine.old base h → (k : History)
         × Answers result (record { login = login.now; head = head.now; body = said body.old.framer (S.left body.old.source.now); moment = now })
         engine.old base h (S.left body.new.source.now) (D.seen disk.new) engine.new k
         × LeavesOnly D.moment D.left_since disk.old disk.new (IsBetween base h k) }
-    ensures sends { CanBeSent result (D.seen disk.new) engine.new }
-    ensures live { result ≢ Answered.Disk → result ≢ Answered.Memory → engine.new.log.closed ≡ false }
-    ensures disk { result ≡ Answered.Disk → Rose (D.faults disk.old) (D.faults disk.new) }
-    ensures goes_on { EngineGoesOn D.seen D.may_leave D.faults disk.old disk.new engine.old engine.new }
-    ensures body { BodyGoesOn S.left S.read_faults S.source_stays body.old body.new (result ≡ Answered.SourceFault) }
+    ensures serves { Serves (D.seen disk.new) engine.new }
+    ensures goes_on { AnswerGoesOn D.seen D.may_leave D.faults S.left S.read_faults S.source_stays disk.old disk.new body.old body.new result engine.old engine.new }
 {
     asked_within_limits();
     let asked = match asked_of(alloc, login, head) {
@@ -163,7 +129,8 @@ pub fn answer<D: Disk, S: Source>(
             return answer_rows(alloc, engine, disk, request, head, body, now);
         }
         Asked::Jobs(request) => {
-            return answer_jobs(alloc, login, engine, disk, request, head, body, now);
+            let stamp = stamp_of(engine, head, now);
+            return answer_job(alloc, login, engine, disk, JobCall { request, stamp }, body);
         }
     }
 }

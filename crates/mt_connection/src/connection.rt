@@ -7,10 +7,9 @@ ghost use Rattle.mt_connection.specs.Steps.{MovesOn};
 ghost use Rattle.mt_connection.specs.Transcript.{setting};
 ghost use Rattle.mt_engine.specs.Current.{Over};
 ghost use Rattle.mt_engine.specs.History.{Bytes, History};
-ghost use Rattle.mt_engine.specs.Ready.{EngineGoesOn, EngineIsReady};
 ghost use Rattle.mt_model.specs.State.{State};
 ghost use Rattle.mt_runner.specs.Account.{tasks_of, told_time};
-ghost use Rattle.mt_runner.specs.AtWork.{AtWork};
+ghost use Rattle.mt_runner.specs.AtWork.{WorkGoesOn, WorkIsReady};
 
 use crate::end::{ConnectionEnd, Step};
 use crate::turning::exchange;
@@ -35,9 +34,7 @@ pub fn serve_connection<D: Disk, P: Spawner, C: Clock, L: Both>(
     most: u64,
     patient: bool,
 ) -> ConnectionEnd
-    requires ready { EngineIsReady D.seen D.may_leave disk.old engine.old }
-    requires at_work { AtWork (P.may (P.rule spawner.old)) (P.gives (P.rule spawner.old)) (P.seen spawner.old) (P.held spawner.old) runner.old (D.seen disk.old) engine.old }
-    requires login { runner.old.login ≡ login.now }
+    requires work { WorkIsReady D.seen D.may_leave P.may P.gives P.seen P.held P.rule disk.old spawner.old runner.old engine.old login.now }
     // Over each history that the disk stands for, where it tells what it holds: what was said, the history that it led to, what a
     // crash at its end leaves, and what one at any moment of it leaves.
     ensures served { (base : State Bytes) (h : History) → Over (D.seen disk.old) engine.old base h → (k : History)
@@ -48,11 +45,8 @@ pub fn serve_connection<D: Disk, P: Spawner, C: Clock, L: Both>(
         × MovesOn D.seen D.moment D.left_since disk.old disk.new engine.new base h k }
     // Where neither the link nor the disk counted a fault, its end names none.
     ensures complete { ByFault result (Rose (L.read_faults link.old) (L.read_faults link.new)) (Rose (L.write_faults link.old) (L.write_faults link.new)) (Rose (D.faults disk.old) (D.faults disk.new)) }
-    ensures at_work { AtWork (P.may (P.rule spawner.new)) (P.gives (P.rule spawner.new)) (P.seen spawner.new) (P.held spawner.new) runner.new (D.seen disk.new) engine.new }
-    ensures same { (runner.new.login ≡ runner.old.login) × (runner.new.slots ≡ runner.old.slots) }
-    ensures goes_on { EngineGoesOn D.seen D.may_leave D.faults disk.old disk.new engine.old engine.new }
+    ensures keeps { WorkGoesOn D.seen D.may_leave D.faults P.may P.gives P.seen P.held P.rule C.rule disk.old disk.new spawner.old spawner.new clock.old clock.new runner.old runner.new engine.old engine.new }
     ensures live { result ≢ ConnectionEnd.Disk → result ≢ ConnectionEnd.Memory → engine.new.log.closed ≡ false }
-    ensures rule { (C.rule clock.new ≡ C.rule clock.old) × (P.rule spawner.new ≡ P.rule spawner.old) }
     ensures stays { L.stays link.old link.new }
 {
     for _answered in 0..most {

@@ -1,16 +1,14 @@
 //! The reply to a message.
-ghost use Rattle.std.specs.Prelude.{◌≡◌, ◌≤◌, ◌<◌, ◌-◌, ◌++◌, ◌⊎◌, ℕ, List, Option, true, false, length, IfOk, IfErr};
-ghost use Rattle.std.specs.Option.{ForSome};
+ghost use Rattle.std.specs.Prelude.{◌≡◌, ◌≤◌, ◌<◌, ◌-◌, ◌++◌, ◌⊎◌, ℕ, List, Option, length, IfOk, IfErr, IsErrOf};
 ghost use Rattle.mt_base.specs.Counts.{NeverFell, Rose};
 ghost use Rattle.mt_body.specs.Sending as part;
-ghost use Rattle.mt_body.specs.Stored.{is_stored};
 ghost use Rattle.mt_disk.specs.CrashModel.{OnlyRead};
 ghost use Rattle.mt_edge.specs.Stream.{GotMore};
 ghost use Rattle.mt_engine.specs.History.{Bytes};
+ghost use Rattle.mt_engine.specs.Looking.{BodyIsThere, LogIsThere, OnlyReads};
 ghost use Rattle.mt_http.specs.Options as options;
 ghost use Rattle.mt_http.specs.ReplyText.{head_text};
 ghost use Rattle.mt_http.specs.ReplyWriting.{WritesText};
-ghost use Rattle.mt_log.specs.LogState.{IsThere, told};
 ghost use Rattle.mt_types.specs.declared.reply.ReplyBody.TheVariants.{Part};
 ghost use Rattle.mt_connection.specs.Steps.{CanBeRead, IsBodyOf, Loads, Sends, text_to};
 ghost use Rattle.mt_connection.specs.Transcript as words;
@@ -76,14 +74,11 @@ fn part_of<D: Disk>(
     from: u64,
     to: u64,
 ) -> Result<Bytes, ConnectionEnd>
-    requires there { IsThere D.seen disk.old engine.now.log }
-    requires is_open { engine.now.log.closed ≡ false }
+    requires ready { BodyIsThere D.seen disk.old engine.now.log body.now }
     requires part { (from ≤ to) × (to ≤ body.now.len) }
-    requires stored { ForSome (told (D.seen disk.old)) (λ ps. is_stored ps body.now ≡ true) }
     ensures ok { IfOk result (λ bytes. IsBodyOf (D.seen disk.old) (Part body.now from to) bytes) }
     ensures ends { IfErr result (λ end. (end ≡ ConnectionEnd.Memory) ⊎ ((end ≡ ConnectionEnd.Disk) × Rose (D.faults disk.old) (D.faults disk.new))) }
-    ensures read { OnlyRead D.seen D.may_leave D.moment D.left_since disk.old disk.new }
-    ensures faults { NeverFell (D.faults disk.old) (D.faults disk.new) }
+    ensures reads { OnlyReads D.seen D.may_leave D.moment D.left_since D.faults disk.old disk.new (IsErrOf result ConnectionEnd.Disk) }
 {
     let mut bytes = match zeros(alloc, (to - from) as usize) {
         Ok(bytes) => bytes,
@@ -107,10 +102,8 @@ fn send_part<D: Disk, K: Sink>(
     to: u64,
     closing: bool,
 ) -> Step
-    requires there { IsThere D.seen disk.old engine.now.log }
-    requires is_open { engine.now.log.closed ≡ false }
+    requires ready { BodyIsThere D.seen disk.old engine.now.log body.now }
     requires part { (from ≤ to) × (to ≤ body.now.len) }
-    requires stored { ForSome (told (D.seen disk.old)) (λ ps. is_stored ps body.now ≡ true) }
     ensures sends { (bytes : Bytes) × IsBodyOf (D.seen disk.old) (Part body.now from to) bytes × Sends closing (head_text reply.now.status reply.now.fields reply.now.closes (to - from) ++ bytes) result
         (K.got sink.old) (K.got sink.new) (K.write_faults sink.old) (K.write_faults sink.new) (D.faults disk.old) (D.faults disk.new) }
     ensures read { OnlyRead D.seen D.may_leave D.moment D.left_since disk.old disk.new }
@@ -140,8 +133,7 @@ fn send<D: Disk, K: Sink>(
     reply: &Reply<Body>,
     head: &Head,
 ) -> Step
-    requires there { IsThere D.seen disk.old engine.now.log }
-    requires is_open { engine.now.log.closed ≡ false }
+    requires ready { LogIsThere D.seen disk.old engine.now.log }
     requires shown { CanBeRead (D.seen disk.old) reply.now.body }
     ensures sends { (body : Bytes) × IsBodyOf (D.seen disk.old) reply.now.body body × Sends (options.closes head.now.minor head.now.fields) (text_to reply.now body head.now) result
         (K.got sink.old) (K.got sink.new) (K.write_faults sink.old) (K.write_faults sink.new) (D.faults disk.old) (D.faults disk.new) }
@@ -178,13 +170,11 @@ fn loaded<D: Disk>(
     disk: &mut D,
     reply: Reply<Body>,
 ) -> Result<Reply<Body>, ConnectionEnd>
-    requires there { IsThere D.seen disk.old engine.now.log }
-    requires is_open { engine.now.log.closed ≡ false }
+    requires ready { LogIsThere D.seen disk.old engine.now.log }
     requires shown { CanBeRead (D.seen disk.old) reply.body }
     ensures ok { IfOk result (λ held. Loads (D.seen disk.old) reply held) }
     ensures ends { IfErr result (λ end. (end ≡ ConnectionEnd.Memory) ⊎ ((end ≡ ConnectionEnd.Disk) × Rose (D.faults disk.old) (D.faults disk.new))) }
-    ensures read { OnlyRead D.seen D.may_leave D.moment D.left_since disk.old disk.new }
-    ensures faults { NeverFell (D.faults disk.old) (D.faults disk.new) }
+    ensures reads { OnlyReads D.seen D.may_leave D.moment D.left_since D.faults disk.old disk.new (IsErrOf result ConnectionEnd.Disk) }
 {
     let Reply {
         status,
@@ -214,8 +204,7 @@ pub(crate) fn respond<D: Disk, K: Sink>(
     reply: Reply<Body>,
     head: &Head,
 ) -> Step
-    requires there { IsThere D.seen disk.old engine.now.log }
-    requires is_open { engine.now.log.closed ≡ false }
+    requires ready { LogIsThere D.seen disk.old engine.now.log }
     requires shown { CanBeRead (D.seen disk.old) reply.body }
     ensures sends { (body : Bytes) × IsBodyOf (D.seen disk.old) reply.body body × Sends (options.closes head.now.minor head.now.fields) (text_to reply body head.now) result
         (K.got sink.old) (K.got sink.new) (K.write_faults sink.old) (K.write_faults sink.new) (D.faults disk.old) (D.faults disk.new) }

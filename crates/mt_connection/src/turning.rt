@@ -6,10 +6,9 @@ ghost use Rattle.mt_connection.specs.Steps.{MovesOn, Stepped};
 ghost use Rattle.mt_connection.specs.Transcript.{setting};
 ghost use Rattle.mt_engine.specs.Current.{Over};
 ghost use Rattle.mt_engine.specs.History.{Bytes, History};
-ghost use Rattle.mt_engine.specs.Ready.{EngineGoesOn, EngineIsReady};
 ghost use Rattle.mt_model.specs.State.{State};
 ghost use Rattle.mt_runner.specs.Account.{tasks_of, told_time};
-ghost use Rattle.mt_runner.specs.AtWork.{AtWork};
+ghost use Rattle.mt_runner.specs.AtWork.{WorkGoesOn, WorkIsReady};
 
 use crate::answering::answer_message;
 use crate::end::{ConnectionEnd, Step};
@@ -49,9 +48,7 @@ pub fn exchange<D: Disk, P: Spawner, C: Clock, L: Both>(
     link: &mut L,
     patient: bool,
 ) -> Step
-    requires ready { EngineIsReady D.seen D.may_leave disk.old engine.old }
-    requires at_work { AtWork (P.may (P.rule spawner.old)) (P.gives (P.rule spawner.old)) (P.seen spawner.old) (P.held spawner.old) runner.old (D.seen disk.old) engine.old }
-    requires login { runner.old.login ≡ login.now }
+    requires work { WorkIsReady D.seen D.may_leave P.may P.gives P.seen P.held P.rule disk.old spawner.old runner.old engine.old login.now }
     // Over each history that the disk stands for, where it tells what it holds: the step, the history that it leads to, and what a
     // crash at any moment of it leaves.
     ensures step { (base : State Bytes) (h : History) → Over (D.seen disk.old) engine.old base h → (k : History)
@@ -59,11 +56,8 @@ pub fn exchange<D: Disk, P: Spawner, C: Clock, L: Both>(
         (sides (side_of L.left L.got L.read_faults L.write_faults link.old) h (D.seen disk.old) (D.faults disk.old) (told_time (is_some (D.seen disk.old)) (D.moment disk.old)) (C.asked clock.old) engine.old (tasks_of (P.seen spawner.old))) result
         (sides (side_of L.left L.got L.read_faults L.write_faults link.new) k (D.seen disk.new) (D.faults disk.new) (told_time (is_some (D.seen disk.old)) (D.moment disk.new)) (C.asked clock.new) engine.new (tasks_of (P.seen spawner.new)))
         × MovesOn D.seen D.moment D.left_since disk.old disk.new engine.new base h k }
-    ensures at_work { AtWork (P.may (P.rule spawner.new)) (P.gives (P.rule spawner.new)) (P.seen spawner.new) (P.held spawner.new) runner.new (D.seen disk.new) engine.new }
-    ensures same { (runner.new.login ≡ runner.old.login) × (runner.new.slots ≡ runner.old.slots) }
-    ensures goes_on { EngineGoesOn D.seen D.may_leave D.faults disk.old disk.new engine.old engine.new }
+    ensures keeps { WorkGoesOn D.seen D.may_leave D.faults P.may P.gives P.seen P.held P.rule C.rule disk.old disk.new spawner.old spawner.new clock.old clock.new runner.old runner.new engine.old engine.new }
     ensures live { result ≢ Step.Over ConnectionEnd.Disk → result ≢ Step.Over ConnectionEnd.Memory → engine.new.log.closed ≡ false }
-    ensures rule { (C.rule clock.new ≡ C.rule clock.old) × (P.rule spawner.new ≡ P.rule spawner.old) }
     ensures stays { L.stays link.old link.new }
 {
     match answer_message(alloc, login, engine, disk, clock, link) {

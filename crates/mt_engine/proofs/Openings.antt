@@ -1,5 +1,5 @@
 -- What an opening says of the files that were there.
-use Rattle.std.proofs.Common.{◌≡◌, ◌≢◌, ℕ, Bool, false, List, [], ◌∷◌, length, Option, Some, Ok, Err, refl, ap, sym, subst, ◌∙◌, arith, length-append}
+use Rattle.std.proofs.Common.{◌≡◌, ◌≢◌, ℕ, Bool, true, false, List, [], ◌∷◌, length, Option, None, Some, Ok, Err, is_some, refl, ap, sym, subst, ◌∙◌, arith, length-append}
 use Rattle.std.specs.Option.{ForSome}
 use Rattle.mt_disk.specs.Files.{Files}
 use Rattle.mt_disk.specs.CrashModel.{OnlyRead}
@@ -13,7 +13,7 @@ use Rattle.mt_log.proofs.Walks.{read_by}
 use Rattle.mt_model.specs.CommandStep.{replay}
 use Rattle.mt_model.specs.State.{State}
 use Rattle.mt_types.specs.declared.body.Body.{Body}
-use Rattle.mt_engine.specs.Current.{IsCurrent}
+use Rattle.mt_engine.specs.Current.{EngineState, IsCurrent, Serves}
 use Rattle.mt_engine.specs.History.{Bytes, HasHistory, History, IsHistoryOf}
 use Rattle.mt_engine.specs.Opening.{IsLoaded, IsReadable, IsRefused, KeepsLogs, NamesForeign, end_by}
 use Rattle.mt_engine.specs.declared.opening.OpenEnd.TheVariants as opening
@@ -77,6 +77,13 @@ foreign_refuses files ps (unreadable.Damaged at kept computed) read names = absu
 foreign_refuses files ps (unreadable.Short at wanted left) read names = absurd names
 foreign_refuses files ps (unreadable.Foreign at) read names = record { ps = ps; read = read; foreign = names }
 
+-- an engine that stands for each history of what was there has one, where there was one
+serves_opened : (old new : Option Files) (engine : EngineState) → is_some new ≡ is_some old
+    → ForSome old (λ files. (base : State Bytes) (h : History) → HasHistory base h files → IsCurrent new engine base h) → ForSome old IsReadable → Serves new engine
+serves_opened None None engine tells current readable is_open files is = absurd (cc)
+serves_opened None (Some now) engine tells current readable is_open files is = let no : true ≡ false = tells in absurd (cc)
+serves_opened (Some there) new engine tells current readable is_open files is = let r = readable there refl in (r.base, r.history, current there refl r.base r.history r.has)
+
 module _ {D : Type 0} (seen : D → Option Files) (may_leave : D → Files → Type 0) (moment : D → ℕ) (left_since : D → ℕ → Files → Type 0) (old mid new : D) where
   -- a log that is refused by itself
   pub refused_log : (why : Unreadable) → ForSome (seen old) (λ files. Settled seen may_leave mid files) → ForSome (seen old) (λ files. IsRefused files why)
@@ -133,3 +140,7 @@ module _ {D : Type 0} (seen : D → Option Files) (may_leave : D → Files → T
           let s = settled files is in
           let l = loaded (payloads_of s.now) (ap told s.seen_is) in
           record { base = l.base; history = l.history; has = record { ps = payloads_of s.now; read = readable files is; fit = fit files is; is = l.is_history } }
+
+      -- so the engine has one
+      pub opened_serves : ForSome (seen old) Fit → is_some (seen new) ≡ is_some (seen old) → Serves (seen new) (record { log = log; state = state })
+      opened_serves fit tells = serves_opened (seen old) (seen new) (record { log = log; state = state }) tells opened_current (opened_readable fit)

@@ -64,9 +64,3 @@ pub ended_same : (result : RunEnd) (log log' : LogState) (gate : ℕ) → (resul
     → (log'.is_old ≡ log.is_old) × (log'.limit ≡ log.limit)
 ended_same ended.Done log log' gate done disk = (ap (λ (l : LogState). l.is_old) (done refl), ap (λ (l : LogState). l.limit) (done refl))
 ended_same ended.Disk log log' gate done disk = (ap (λ (l : LogState). l.is_old) (disk refl), ap (λ (l : LogState). l.limit) (disk refl))
-
--- and so does one whose run is given up
-pub dropped_same : (result : RunEnd) (log log' : LogState) → (result ≡ ended.Done → log' ≡ log) → (result ≡ ended.Disk → log' ≡ record log { closed = true })
-    → (log'.is_old ≡ log.is_old) × (log'.limit ≡ log.limit)
-dropped_same ended.Done log log' done disk = (ap (λ (l : LogState). l.is_old) (done refl), ap (λ (l : LogState). l.limit) (done refl))
-dropped_same ended.Disk log log' done disk = (ap (λ (l : LogState). l.is_old) (disk refl), ap (λ (l : LogState). l.limit) (disk refl))

@@ -1,15 +1,10 @@
 //! Storing the five texts that a job leaves as it ends.
-ghost use Rattle.std.specs.Prelude.{◌≡◌, ◌≢◌, ◌≤◌, ℕ, List, true, is_some, IfSome};
-ghost use Rattle.mt_base.specs.Counts.{Rose};
-ghost use Rattle.mt_disk.specs.CrashModel.{LeavesOnly};
+ghost use Rattle.std.specs.Prelude.{◌≡◌, ◌≤◌, true, is_some, IfSome};
 ghost use Rattle.mt_jobtext.specs.JobTexts.{text_of};
 ghost use Rattle.mt_model.specs.JobSteps.{done_at};
-ghost use Rattle.mt_model.specs.State.{State, job_at};
-ghost use Rattle.mt_types.specs.declared.command.Archive.{Archive};
-ghost use Rattle.mt_engine.specs.Archiving.{AreTextsOf, ArchiveGoes, PlacesArchive, StoresArchive, TextGoes, ended_by};
-ghost use Rattle.mt_engine.specs.Current.{IsWriting};
-ghost use Rattle.mt_engine.specs.History.{Bytes, HasHistory, History};
-ghost use Rattle.mt_engine.specs.Ready.{EngineStays, RunGoesOn, RunIsReady};
+ghost use Rattle.mt_model.specs.State.{job_at};
+ghost use Rattle.mt_engine.specs.Archiving.{ArchiveGoes, TextGoes, ended_by};
+ghost use Rattle.mt_engine.specs.Ready.{RunIsReady};
 
 use crate::engine::Engine;
 use md5::{Digest, Md5};
@@ -143,18 +138,7 @@ impl Engine {
         requires ready { RunIsReady D.seen D.may_leave disk.old self.old run.old }
         requires moment { moment ≤ LAST_MOMENT }
         requires found { is_some (job_at self.old.state.jobs job) ≡ true }
-        // Over any disk.
-        ensures places { PlacesArchive result login.now self.old job cancelled moment run.old run.new }
-        // Over one that tells what it holds.
-        ensures archive { (base : State Bytes) (h : History) (qs : List (List ℕ)) → IsWriting (D.seen disk.old) self.old run.old base h qs →
-            (texts : Archive (List ℕ)) → AreTextsOf login.now self.old job cancelled moment texts → StoresArchive result texts (D.seen disk.new) self.new run.new base h qs }
-        ensures any_moment { (base : State Bytes) (h : History) (qs : List (List ℕ)) → IsWriting (D.seen disk.old) self.old run.old base h qs →
-            LeavesOnly D.moment D.left_since disk.old disk.new (HasHistory base h) }
-        ensures goes_on { RunGoesOn D.seen D.may_leave disk.new self.new run.new }
-        ensures keeps { EngineStays D.seen D.faults disk.old disk.new self.old self.new }
-        ensures still_open { result ≢ Archiving.Disk → self.new ≡ self.old }
-        ensures closed { result ≡ Archiving.Disk → self.new.log.closed ≡ true }
-        ensures disk { result ≡ Archiving.Disk → Rose (D.faults disk.old) (D.faults disk.new) }
+        ensures { ArchiveGoes D.seen D.may_leave D.moment D.left_since D.faults disk.old disk.new self.old self.new run.old run.new login.now job cancelled moment result }
     {
         let ending = Ending {
             job,

@@ -1,10 +1,8 @@
 //! The digests of bodies in a log, of which a log keeps none: they are taken once, as it is opened.
-ghost use Rattle.std.specs.Prelude.{◌≡◌, ◌<◌, true, length, map, IfOk, OnOk, IsErrOf};
+ghost use Rattle.std.specs.Prelude.{◌≡◌, ◌<◌, true, length, map, IfOk, OnOk, IsErr, IsErrOf};
 ghost use Rattle.std.specs.List.{AllByRecursion};
 ghost use Rattle.std.specs.Option.{ForSome};
 ghost use Rattle.md5.specs.Md5.{md5};
-ghost use Rattle.mt_base.specs.Counts.{HasCause};
-ghost use Rattle.mt_disk.specs.CrashModel.{OnlyRead};
 ghost use Rattle.mt_log.specs.LogState.{told};
 ghost use Rattle.mt_body.specs.Stored.{IsStored, bytes_of, is_stored};
 ghost use Rattle.mt_codec.specs.Spelling.{undigested, undigested_body};
@@ -31,9 +29,7 @@ fn digest_by<D: Disk>(
     requires ready { BodyIsThere D.seen disk.old log.now body.now }
     requires room { 0 < body.now.len → 0 < length buffer.old }
     ensures digest { IfOk result (λ sum. ForSome (told (D.seen disk.old)) (λ ps. sum ≡ md5 (bytes_of ps body.now))) }
-    ensures read { OnlyRead D.seen D.may_leave D.moment D.left_since disk.old disk.new }
-    ensures stays { D.stays disk.old disk.new }
-    ensures cause { HasCause (D.faults disk.old) (D.faults disk.new) result }
+    ensures looks { OnlyLooks D.seen D.may_leave D.moment D.left_since D.faults D.stays disk.old disk.new (IsErr result) }
 {
     let len = body.size();
     let mut sum = Md5::new();

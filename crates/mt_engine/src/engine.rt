@@ -23,7 +23,7 @@ ghost use Rattle.mt_engine.specs.Current.{IsBetween, IsCurrent, IsWriting};
 ghost use Rattle.mt_engine.specs.History.{Bytes, HasHistory, History};
 ghost use Rattle.mt_engine.specs.Ready.{EngineStays, RunGoesOn, RunIsReady};
 
-use crate::publish::{RunEnd, drop_log_run, end_log_run, publish};
+use crate::publish::{RunEnd, end_log_run, publish};
 use md5::Md5;
 use mt_account::{Account, has_spelling};
 use mt_body::{Storing, store};
@@ -31,7 +31,7 @@ use mt_codec::encode;
 use mt_disk::Disk;
 use mt_edge::Source;
 use mt_jobs::Jobs;
-use mt_log::{Log, Run};
+use mt_log::{AppendError, Log, Run};
 use mt_tree::Tree;
 use mt_types::{Body, Command, MOST_COMMANDS, Refusal};
 use std::alloc::{AllocError, Global};
@@ -234,7 +234,11 @@ impl Engine {
         ensures keeps { EngineStays D.seen D.faults disk.old disk.new self.old self.new }
         ensures disk { result ≡ RunEnd.Disk → Rose (D.faults disk.old) (D.faults disk.new) }
     {
-        drop_log_run(&mut self.log, disk, run)
+        match self.log.drop_run(disk, run) {
+            Ok(()) => RunEnd::Done,
+            Err(AppendError::Disk) => RunEnd::Disk,
+            Err(AppendError::Closed | AppendError::Full) => unreachable!(),
+        }
     }
 
     /// Ends a run with a command on rows or jobs, whose bodies were stored in the run or before it: it is added, and the state is that after

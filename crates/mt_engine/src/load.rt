@@ -1,11 +1,9 @@
 //! Reading the payloads of a log that was opened, one behind the other: pieces of bodies are noted, and commands change the state.
-ghost use Rattle.std.specs.Prelude.{◌≡◌, ◌≢◌, ◌<◌, ◌≤◌, ◌+◌, ℕ, List, true, false, None, length, Err, IfOk, OnOk, IsErrOf, IsTrue, ◌↔◌};
+ghost use Rattle.std.specs.Prelude.{◌≡◌, ◌≢◌, ◌<◌, ◌≤◌, ◌+◌, ℕ, List, true, false, None, length, Err, IfOk, OnOk, IsErr, IsErrOf, IsTrue, ◌↔◌};
 ghost use Rattle.std.specs.List.{AllByRecursion};
 ghost use Rattle.std.specs.Option.{ForSome};
-ghost use Rattle.mt_base.specs.Counts.{HasCause};
 ghost use Rattle.mt_codec.specs.Pieces.{is_piece};
 ghost use Rattle.mt_codec.specs.Spelling.{HasSpelling, Spells, spelling};
-ghost use Rattle.mt_disk.specs.CrashModel.{OnlyRead};
 ghost use Rattle.mt_log.specs.LogState.{next_place, told};
 ghost use Rattle.mt_log.specs.Places.{payload_at};
 ghost use Rattle.mt_body.specs.Stored.{is_stored};
@@ -51,9 +49,7 @@ fn head_at<D: Disk>(log: &Log, disk: &mut D, place: u64) -> Result<Head, DiskFau
     requires ready { RecordIsThere D.seen disk.old log.now place }
     ensures head { IfOk result (λ h. ForSome (told (D.seen disk.old)) (λ ps. (h.len ≡ length (payload_at place ps)) × (h.is_piece ≡ is_piece (payload_at place ps)))) }
     ensures size { IfOk result (λ h. h.is_piece ≡ true → (1 < h.len) × (h.len ≤ 65537)) }
-    ensures read { OnlyRead D.seen D.may_leave D.moment D.left_since disk.old disk.new }
-    ensures stays { D.stays disk.old disk.new }
-    ensures cause { HasCause (D.faults disk.old) (D.faults disk.new) result }
+    ensures looks { OnlyLooks D.seen D.may_leave D.moment D.left_since D.faults D.stays disk.old disk.new (IsErr result) }
 {
     let len = log.payload_len(disk, place)?;
     if len < 2 || len > LARGEST_RECORD {

@@ -1,14 +1,14 @@
 //! Opening the log of a disk, and the state that it stands for.
-ghost use Rattle.std.specs.Prelude.{◌≡◌, Err, false, is_some, IfOk, OnOk, IsErrOf};
+ghost use Rattle.std.specs.Prelude.{◌≡◌, Err, is_some, IfOk, OnOk, IsErrOf};
 ghost use Rattle.std.specs.Option.{ForSome};
 ghost use Rattle.mt_base.specs.Counts.{NeverFell, Rose};
 ghost use Rattle.mt_disk.specs.CrashModel.{IsAtRest, LeavesOnly};
 ghost use Rattle.mt_log.specs.LogImage.{Fit, SameLog};
-ghost use Rattle.mt_log.specs.LogState.{Stands};
 ghost use Rattle.mt_model.specs.State.{State};
 ghost use Rattle.mt_engine.specs.Current.{IsCurrent};
 ghost use Rattle.mt_engine.specs.History.{Bytes, HasHistory, History};
 ghost use Rattle.mt_engine.specs.Opening.{IsReadable, IsRefused, KeepsLogs};
+ghost use Rattle.mt_engine.specs.Ready.{EngineIsReady};
 ghost use Rattle.mt_engine.specs.declared.opening.Unreadable.{Unreadable};
 
 use crate::engine::Engine;
@@ -28,9 +28,7 @@ impl Engine {
         ensures current { ForSome (D.seen disk.old) (λ files. (base : State Bytes) (h : History) → HasHistory base h files →
             IfOk result (λ e. IsCurrent (D.seen disk.new) e base h)) }
         ensures limit { IfOk result (λ e. e.log.limit ≡ limit) }
-        ensures live { IfOk result (λ e. e.log.closed ≡ false) }
-        ensures version { IfOk result (λ e. e.log.is_old ≡ false) }
-        ensures stands { IfOk result (λ e. Stands D.seen D.may_leave disk.new e.log) }
+        ensures ready { IfOk result (λ e. EngineIsReady D.seen D.may_leave disk.new e) }
         // A disk that told what it held tells it still.
         ensures tells { OnOk result (is_some (D.seen disk.new) ≡ is_some (D.seen disk.old)) }
         // Only what can be read is opened, and what is refused is refused for its first fault, and stays.

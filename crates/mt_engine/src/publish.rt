@@ -66,22 +66,3 @@ pub(crate) fn publish<D: Disk>(log: &mut Log, disk: &mut D, mut run: Run, payloa
         Err(AppendError::Closed | AppendError::Full) => unreachable!(),
     }
 }
-
-/// Gives a run of an open log up.
-pub(crate) fn drop_log_run<D: Disk>(log: &mut Log, disk: &mut D, run: Run) -> RunEnd
-    requires running { Running D.seen D.may_leave disk.old log.old run }
-    requires is_open { log.old.closed ≡ false }
-    ensures same { result ≡ RunEnd.Done → D.seen disk.new ≡ D.seen disk.old }
-    ensures kept { result ≡ RunEnd.Done → log.new ≡ log.old }
-    ensures any_moment { ForSome (D.seen disk.old) (λ files. LeavesOnly D.moment D.left_since disk.old disk.new (IsBeforeOrAfter files [])) }
-    ensures stands { Stands D.seen D.may_leave disk.new log.new }
-    ensures disk { result ≡ RunEnd.Disk → Rose (D.faults disk.old) (D.faults disk.new) }
-    ensures closes { result ≡ RunEnd.Disk → log.new ≡ record log.old { closed = true } }
-    ensures faults { NeverFell (D.faults disk.old) (D.faults disk.new) }
-{
-    match log.drop_run(disk, run) {
-        Ok(()) => RunEnd::Done,
-        Err(AppendError::Disk) => RunEnd::Disk,
-        Err(AppendError::Closed | AppendError::Full) => unreachable!(),
-    }
-}

@@ -1,14 +1,13 @@
 //! Reading the bodies of an engine's state.
-ghost use Rattle.std.specs.Prelude.{◌≡◌, ◌<◌, ◌≤◌, ◌+◌, ◌-◌, ℕ, List, true, false, length, take, drop, OnOk};
+ghost use Rattle.std.specs.Prelude.{◌≡◌, ◌<◌, ◌≤◌, ◌+◌, ◌-◌, ℕ, List, length, take, drop, IsErr, OnOk};
 ghost use Rattle.std.specs.Option.{ForSome};
-ghost use Rattle.mt_base.specs.Counts.{HasCause, NeverFell, Rose};
 ghost use Rattle.mt_body.specs.Sending.{Sends};
-ghost use Rattle.mt_body.specs.Stored.{bytes_of, is_stored};
-ghost use Rattle.mt_disk.specs.CrashModel.{OnlyRead};
-ghost use Rattle.mt_log.specs.LogState.{IsThere, Stands, told};
+ghost use Rattle.mt_body.specs.Stored.{bytes_of};
+ghost use Rattle.mt_log.specs.LogState.{told};
 ghost use Rattle.mt_model.specs.State.{State};
 ghost use Rattle.mt_engine.specs.Current.{IsCurrent};
 ghost use Rattle.mt_engine.specs.History.{Bytes, History};
+ghost use Rattle.mt_engine.specs.Looking.{BodyIsThere, OnlyLooks, OnlyReads};
 ghost use Rattle.mt_engine.specs.Reading.{ReadsPart, SendsPart};
 
 use crate::engine::Engine;
@@ -26,19 +25,13 @@ impl Engine {
         at: u64,
         into: &mut [u8],
     ) -> Result<(), DiskFault>
-        requires there { IsThere D.seen disk.old self.now.log }
-        requires is_open { self.now.log.closed ≡ false }
-        requires stored { ForSome (told (D.seen disk.old)) (λ ps. is_stored ps body.now ≡ true) }
+        requires ready { BodyIsThere D.seen disk.old self.now.log body.now }
         requires within { at + length into.old ≤ body.now.len }
         ensures bytes { OnOk result (ForSome (told (D.seen disk.old)) (λ ps. into.new ≡ take (length into.old) (drop at (bytes_of ps body.now)))) }
         // Over a disk that tells what it holds: the bytes that the history's objects of this body have.
         ensures part { (base : State Bytes) (h : History) → IsCurrent (D.seen disk.old) self.now base h → ReadsPart result into.new at (length into.old) self.now base h body.now }
-        // Nothing was written.
-        ensures read { OnlyRead D.seen D.may_leave D.moment D.left_since disk.old disk.new }
-        ensures current { (base : State Bytes) (h : History) → IsCurrent (D.seen disk.old) self.now base h → IsCurrent (D.seen disk.new) self.now base h }
-        ensures stands { Stands D.seen D.may_leave disk.old self.now.log → Stands D.seen D.may_leave disk.new self.now.log }
-        ensures stays { D.stays disk.old disk.new }
-        ensures cause { HasCause (D.faults disk.old) (D.faults disk.new) result }
+        // Nothing was written, so that the engine stands as it did, and for the same history.
+        ensures looks { OnlyLooks D.seen D.may_leave D.moment D.left_since D.faults D.stays disk.old disk.new (IsErr result) }
     {
         read_body(&self.log, disk, body, at, into)
     }
@@ -54,9 +47,7 @@ impl Engine {
         to: u64,
         buffer: &mut [u8],
     ) -> Sent
-        requires there { IsThere D.seen disk.old self.now.log }
-        requires is_open { self.now.log.closed ≡ false }
-        requires stored { ForSome (told (D.seen disk.old)) (λ ps. is_stored ps body.now ≡ true) }
+        requires ready { BodyIsThere D.seen disk.old self.now.log body.now }
         requires part { (from ≤ to) × (to ≤ body.now.len) }
         requires room { 0 < length buffer.old }
         // Over a disk that tells nothing: some bytes, so many.
@@ -65,12 +56,8 @@ impl Engine {
         // Over one that tells what it holds: the bytes that the history's objects of this body have.
         ensures part { (base : State Bytes) (h : History) → IsCurrent (D.seen disk.old) self.now base h →
             SendsPart result (K.got sink.old) (K.got sink.new) (K.write_faults sink.old) (K.write_faults sink.new) from to self.now base h body.now }
-        // Nothing was written.
-        ensures read { OnlyRead D.seen D.may_leave D.moment D.left_since disk.old disk.new }
-        ensures current { (base : State Bytes) (h : History) → IsCurrent (D.seen disk.old) self.now base h → IsCurrent (D.seen disk.new) self.now base h }
-        ensures stands { Stands D.seen D.may_leave disk.old self.now.log → Stands D.seen D.may_leave disk.new self.now.log }
-        ensures disk { result ≡ Sent.Disk → Rose (D.faults disk.old) (D.faults disk.new) }
-        ensures faults { NeverFell (D.faults disk.old) (D.faults disk.new) }
+        // Nothing was written, so that the engine stands as it did, and for the same history.
+        ensures reads { OnlyReads D.seen D.may_leave D.moment D.left_since D.faults disk.old disk.new (result ≡ Sent.Disk) }
         ensures stays { K.sink_stays sink.old sink.new }
     {
         send_body(&self.log, disk, sink, body, from, to, buffer)

@@ -17,7 +17,7 @@ pub enum Turn {
     NotYet,
     /// The spawner failed, and counted it. The task that it concerns is ready again.
     SpawnFault,
-    /// The command that is due has no room, and nothing of it was written.
+    /// The command that is due has no room, and nothing was added: the log is as long as before.
     Full,
     /// The disk has failed, and counted it. Where that was behind a child's end or a job's, the engine is closed.
     Disk,

@@ -7,9 +7,9 @@ use Rattle.mt_base.specs.Counts.{NeverFell}
 use Rattle.mt_disk.specs.CrashModel.{LeavesOnly}
 use Rattle.mt_disk.specs.Files.{Files}
 use Rattle.mt_disk.proofs.Moments.{joins, leaves_now, weakens}
-use Rattle.mt_engine.specs.Current.{EngineState, IsBetween, IsCurrent, Serves}
+use Rattle.mt_engine.specs.Current.{EngineState, IsBetween, IsCurrent}
 use Rattle.mt_engine.specs.History.{Bytes, HasHistory, History}
-use Rattle.mt_engine.specs.Opening.{IsReadable, KeepsLogs}
+use Rattle.mt_engine.specs.Opening.{KeepsLogs}
 use Rattle.mt_engine.specs.declared.opening.Unreadable.{Unreadable}
 use Rattle.mt_log.specs.LogImage.{SameLog, log_size}
 use Rattle.mt_model.specs.State.{State}
@@ -34,13 +34,6 @@ pub over_opened : (old mid : Option Files) (engine : EngineState) (base : State 
 over_opened None None engine base h tells current has files is = absurd (cc)
 over_opened None (Some now) engine base h tells current has files is = let no : true ≡ false = tells in absurd (cc)
 over_opened (Some there) mid engine base h tells current has files is = current there refl base h (has there refl)
-
--- and there is one
-pub serves_opened : (old mid : Option Files) (engine : EngineState) → is_some mid ≡ is_some old
-    → ForSome old (λ files. (base : State Bytes) (h : History) → HasHistory base h files → IsCurrent mid engine base h) → ForSome old IsReadable → Serves mid engine
-serves_opened None None engine tells current readable is_open files is = absurd (cc)
-serves_opened None (Some now) engine tells current readable is_open files is = let no : true ≡ false = tells in absurd (cc)
-serves_opened (Some there) mid engine tells current readable is_open files is = let r = readable there refl in (r.base, r.history, current there refl r.base r.history r.has)
 
 -- the same log has as many bytes
 pub kept_size : (old mid : Option Files) → is_some mid ≡ is_some old → ((files : Files) → old ≡ Some files → (now : Files) → mid ≡ Some now → SameLog files now) → size_of mid ≡ size_of old

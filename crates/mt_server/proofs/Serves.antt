@@ -12,7 +12,7 @@ use Rattle.mt_connection.proofs.Runs.{no_count_fell, no_count_fell_self}
 use Rattle.mt_server.specs.Guarantees.{HasServed, HasSize, Holds, IsDurable, IsOpened, IsStopped, Leaves, Scene, Shop, Visited, shop_scene}
 use Rattle.mt_server.specs.Lines.{SaysLine, line_of}
 use Rattle.mt_server.specs.Events.{DrainsBehind, Event, Events, Had, IsEnd, Passed, Woke, on_link}
-use Rattle.mt_server.specs.Statuses.{ByDisk, ByDoor, IsBegun, IsOfServe, IsUnopened, NotOpened, most_messages}
+use Rattle.mt_server.specs.Statuses.{ByDisk, ByDoor, IsBegun, IsOfServe, IsSilent, IsUnopened, NotOpened, most_messages}
 use Rattle.mt_server.specs.declared.status.ServeEnd.{ServeEnd}
 use Rattle.mt_server.specs.declared.status.Status.{Status}
 use Rattle.mt_server.specs.declared.status.Status.TheVariants as status
@@ -85,6 +85,16 @@ not_begun status.Usage is begun = begun
 not_begun (status.Session end) is begun = is
 not_begun (status.Drained last) is begun = is
 not_begun (status.Serve end) is begun = is
+
+-- a status without a line is one of a store that was not opened
+pub silent_unopened : (end : Status) → IsSilent end → IsUnopened end
+silent_unopened status.OpeningFault is = is
+silent_unopened status.OutOfMemory is = is
+silent_unopened status.Usage is = absurd is
+silent_unopened (status.UnreadableLog why) is = absurd is
+silent_unopened (status.Session end) is = is
+silent_unopened (status.Drained last) is = is
+silent_unopened (status.Serve end) is = is
 
 -- the line of a log that can't be read was said
 pub said_why : (end : Status) (got : Option Bytes) (w d : ℕ) (got' : Option Bytes) (w' d' : ℕ) → NotOpened end got w d got' w' d' → (why : Unreadable) → end ≡ status.UnreadableLog why → SaysLine (line_of why) got got' w w'

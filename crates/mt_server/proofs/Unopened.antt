@@ -8,7 +8,7 @@ use Rattle.mt_engine.specs.declared.opening.OpenEnd.TheVariants as opening
 use Rattle.mt_engine.specs.declared.opening.Unreadable.{Unreadable}
 use Rattle.mt_connection.specs.declared.end.ConnectionEnd.TheVariants as ended
 use Rattle.mt_server.specs.Lines.{SaysLine, line_of}
-use Rattle.mt_server.specs.Statuses.{ByBytes, ByDisk, ByLink, BySpawner, IsOfSession, IsUnopened, NotOpened, Tells}
+use Rattle.mt_server.specs.Statuses.{ByBytes, ByDisk, ByLink, BySpawner, IsOfServe, IsOfSession, IsUnopened, NotOpened, Tells}
 use Rattle.mt_runner.specs.declared.turn.Turn.TheVariants as turn
 use Rattle.mt_server.specs.declared.status.ServeEnd.TheVariants as serving
 use Rattle.mt_server.specs.declared.status.Status.{Status}
@@ -72,3 +72,20 @@ pub unopened_spawner : (end : Status) (f f' : ℕ) → IsUnopened end → BySpaw
 unopened_spawner (status.Drained last) f f' closed = absurd closed
 unopened_spawner (status.Serve end) f f' closed = absurd closed
 unopened_spawner end f f' closed = tt
+
+-- ---- a serve
+
+serve_bytes : (bytes : Bytes) (end : Status) → IsOfServe end → ByBytes bytes end
+serve_bytes bytes (status.Session end) of = absurd of
+serve_bytes bytes (status.Drained last) of = absurd of
+serve_bytes bytes end of = tt
+
+-- no bytes of a source decide how it ends
+pub serve_some : (left : Option Bytes) (end : Status) → IsOfServe end → IfSome left (λ bytes. ByBytes bytes end)
+serve_some None end of = tt
+serve_some (Some bytes) end of = serve_bytes bytes end of
+
+-- and no fault of the source or the sink does
+pub serve_link : (end : Status) (r w r' w' : ℕ) → IsOfServe end → ByLink end r w r' w'
+serve_link (status.Session end) r w r' w' of = absurd of
+serve_link end r w r' w' of = tt

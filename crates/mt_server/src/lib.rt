@@ -8,7 +8,8 @@
 //! - `status`: how a run ended, and its number.
 //!
 //! In `specs/` begin with `Guarantees`; `Statuses` says what each status means, `Events` what many connections are, `Lines` what is
-//! written where nothing is served, `Chains` what holds over many runs.
+//! written where nothing is served, `Chains` what holds over many runs, `Running` what the calls within a run ask
+//! and leave.
 #![tactic(auto)]
 
 mod came;

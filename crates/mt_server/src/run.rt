@@ -1,13 +1,9 @@
 //! What the words ask for is done: a session, or connections.
-ghost use Rattle.std.specs.Prelude.{◌≡◌, ◌+◌, ◌⊎◌, ℕ, [], false, is_some, IfSome, None, map, string_bytes};
+ghost use Rattle.std.specs.Prelude.{◌≡◌, ◌⊎◌, ℕ, false, is_some, map, string_bytes};
 ghost use Rattle.std.specs.Option.{ForSome};
 ghost use Rattle.mt_base.specs.Counts.{Rose};
-ghost use Rattle.mt_disk.specs.CrashModel.{IsAtRest, LeavesOnly};
-ghost use Rattle.mt_log.specs.LogImage.{Fit, SameLog};
 ghost use Rattle.mt_model.specs.State.{State};
 ghost use Rattle.mt_engine.specs.History.{Bytes, HasHistory, History};
-ghost use Rattle.mt_engine.specs.Opening.{IsReadable, IsRefused, KeepsLogs};
-ghost use Rattle.mt_engine.specs.declared.opening.Unreadable.{Unreadable};
 ghost use Rattle.mt_runner.specs.Account.{account_side, tasks_of, told_time};
 ghost use Rattle.mt_connection.specs.Sides.{joined, link_side, side_of};
 ghost use Rattle.mt_connection.specs.Transcript.{setting};
@@ -16,9 +12,10 @@ ghost use Rattle.mt_settings.specs.declared.fault.UsageFault.{UsageFault};
 ghost use Rattle.mt_settings.specs.declared.settings.Settings.{Settings};
 ghost use Rattle.mt_server.specs.declared.status.ServeEnd.TheVariants.{NoLink};
 ghost use Rattle.mt_server.specs.Guarantees.{HasRun, HasServed, scene, shop};
-ghost use Rattle.mt_server.specs.Lines.{SaysLine, line_of, usage_line};
+ghost use Rattle.mt_server.specs.Lines.{SaysLine, usage_line};
 ghost use Rattle.mt_server.specs.Events.{door_side, size_of};
-ghost use Rattle.mt_server.specs.Statuses.{ByBytes, ByDisk, ByDoor, ByLink, BySpawner, IsBegun, IsOfServe, IsOfSession, IsReadyAfter, IsSilent, IsUnopened, WantsServe, WantsSession};
+ghost use Rattle.mt_server.specs.Running.{DoorIsIdle, LeavesOutside, OutsideIsIdle, SaysOfStore, SessionHasCause};
+ghost use Rattle.mt_server.specs.Statuses.{ByDoor, IsBegun, IsOfServe, IsOfSession, WantsServe, WantsSession};
 
 use crate::line::say;
 use crate::serve::serve;
@@ -42,12 +39,8 @@ pub(crate) fn run<S: Source, K: Sink, D: Disk, P: Spawner, C: Clock, W: Door>(
     clock: &mut C,
     door: &mut W,
 ) -> Status
-    requires rest { IsAtRest D.seen D.may_leave disk.old }
-    requires fit { ForSome (D.seen disk.old) Fit }
-    requires door { W.over door.old + W.kept door.old ≡ W.taken door.old }
-    requires none_kept { W.kept door.old ≡ 0 }
-    requires idle { (P.seen spawner.old).live ≡ [] }
-    requires free { P.held spawner.old ≡ None }
+    requires outside { OutsideIsIdle D.seen D.may_leave P.seen P.held disk.old spawner.old }
+    requires door { DoorIsIdle (W.taken door.old) (W.over door.old) (W.kept door.old) }
     ensures session { (settings : Settings) → WantsSession (map string_bytes words.now) settings → (base : State Bytes) (h : History) → ForSome (D.seen disk.old) (HasHistory base h) → (k : History) × (used : ℕ) ×
         HasRun (setting (is_some (S.left source.old)) (is_some (D.seen disk.old)) (C.gives (C.rule clock.old)) (P.gives (P.rule spawner.old)) settings.login settings.slots settings.log_limit base)
         (scene D.seen D.may_leave D.left_since disk.old (joined (link_side (S.left source.old) (K.got sink.old) (S.read_faults source.old) (K.write_faults sink.old))
@@ -66,22 +59,11 @@ pub(crate) fn run<S: Source, K: Sink, D: Disk, P: Spawner, C: Clock, W: Door>(
     ensures words { (fault : UsageFault) → settings_of (map string_bytes words.now) ≡ Err fault → ((result ≡ Status.Usage) ⊎ (result ≡ Status.OutOfMemory)) × (source.new ≡ source.old) × (disk.new ≡ disk.old) × (door.new ≡ door.old) × (spawner.new ≡ spawner.old) }
     ensures usage { result ≡ Status.Usage → ((fault : UsageFault) × (settings_of (map string_bytes words.now) ≡ Err fault)) × (source.new ≡ source.old) × (disk.new ≡ disk.old) × (door.new ≡ door.old)
         × (spawner.new ≡ spawner.old) × SaysLine usage_line (K.got sink.old) (K.got sink.new) (K.write_faults sink.old) (K.write_faults sink.new) }
-    ensures begun { IsBegun result → ForSome (D.seen disk.old) IsReadable }
-    ensures unopened { IsUnopened result → (source.new ≡ source.old) × (door.new ≡ door.old) × (spawner.new ≡ spawner.old) × ForSome (D.seen disk.old) (λ files. LeavesOnly D.moment D.left_since disk.old disk.new (SameLog files)) }
-    ensures silent { IsSilent result → sink.new ≡ sink.old }
-    ensures refused { (why : Unreadable) → result ≡ Status.UnreadableLog why → SaysLine (line_of why) (K.got sink.old) (K.got sink.new) (K.write_faults sink.old) (K.write_faults sink.new)
-        × ForSome (D.seen disk.old) (λ files. IsRefused files why × KeepsLogs D.seen D.may_leave disk.new files) }
-    ensures by_bytes { IfSome (S.left source.old) (λ bytes. ByBytes bytes result) }
-    ensures by_link { ByLink result (S.read_faults source.old) (K.write_faults sink.old) (S.read_faults source.new) (K.write_faults sink.new) }
-    ensures by_disk { ByDisk result (D.faults disk.old) (D.faults disk.new) }
-    ensures by_spawner { BySpawner result (P.seen spawner.old).faults (P.seen spawner.new).faults }
-    ensures no_child_left { ((P.seen spawner.new).live ≡ []) × (P.held spawner.new ≡ None) }
-    ensures rest { IsReadyAfter result (is_some (D.seen disk.old)) (IsAtRest D.seen D.may_leave disk.new × ForSome (D.seen disk.new) Fit) }
+    ensures store { SaysOfStore D.seen D.may_leave D.moment D.left_since K.got K.write_faults disk.old disk.new sink.old sink.new ((source.new ≡ source.old) × (door.new ≡ door.old) × (spawner.new ≡ spawner.old)) result }
+    ensures cause { SessionHasCause S.left S.read_faults K.write_faults D.faults P.seen source.old source.new sink.old sink.new disk.old disk.new spawner.old spawner.new result }
+    ensures outside { LeavesOutside D.seen D.may_leave P.seen P.held P.rule C.rule disk.old disk.new spawner.old spawner.new clock.old clock.new (S.source_stays source.old source.new × K.sink_stays sink.old sink.new) result }
     ensures by_door { (settings : Settings) (connections : ℕ) → WantsServe (map string_bytes words.now) settings connections → ByDoor result connections (W.taken door.old) (W.door_faults door.old) (W.taken door.new) (W.door_faults door.new) }
     ensures no_link { result ≡ Status.Serve NoLink → Rose (W.door_faults door.old) (W.door_faults door.new) }
-    ensures source_stays { S.source_stays source.old source.new }
-    ensures sink_stays { K.sink_stays sink.old sink.new }
-    ensures rule { (C.rule clock.new ≡ C.rule clock.old) × (P.rule spawner.new ≡ P.rule spawner.old) }
 {
     let settings = match Settings::read(alloc, words) {
         Ok(settings) => settings,

@@ -1,25 +1,20 @@
 //! Many connections: turns of the links of a door, one after another, each of which is given back, and a drain of tasks behind each.
-ghost use Rattle.std.specs.Prelude.{◌≡◌, ◌≢◌, ◌<◌, ◌+◌, ℕ, [], false, true, is_some, None, Some};
+ghost use Rattle.std.specs.Prelude.{◌≡◌, ◌≢◌, ◌<◌, ◌+◌, ℕ, false, is_some, Some};
 ghost use Rattle.std.specs.Option.{ForSome};
 ghost use Rattle.mt_base.specs.Counts.{NeverFell, Rose};
-ghost use Rattle.mt_disk.specs.CrashModel.{IsAtRest, LeavesOnly};
 ghost use Rattle.mt_edge.specs.Doors.{as_count};
-ghost use Rattle.mt_log.specs.LogImage.{Fit, SameLog};
 ghost use Rattle.mt_model.specs.State.{State};
 ghost use Rattle.mt_engine.specs.Current.{Over, told_size};
 ghost use Rattle.mt_engine.specs.History.{Bytes, HasHistory, History};
-ghost use Rattle.mt_engine.specs.Opening.{IsReadable, IsRefused, KeepsLogs};
-ghost use Rattle.mt_engine.specs.Ready.{EngineGoesOn, EngineIsReady};
-ghost use Rattle.mt_engine.specs.declared.opening.Unreadable.{Unreadable};
 ghost use Rattle.mt_runner.specs.Account.{account_side, tasks_of, told_time};
-ghost use Rattle.mt_runner.specs.AtWork.{AtWork};
+ghost use Rattle.mt_runner.specs.AtWork.{WorkGoesOn, WorkIsReady};
 ghost use Rattle.mt_connection.specs.Sides.{side_of};
 ghost use Rattle.mt_connection.specs.Steps.{MovesOn};
 ghost use Rattle.mt_connection.specs.Transcript.{setting};
 ghost use Rattle.mt_server.specs.Guarantees.{HasServed, scene, shop};
-ghost use Rattle.mt_server.specs.Lines.{SaysLine, line_of};
 ghost use Rattle.mt_server.specs.Events.{door_side, drain_breaks, end_breaks, size_of};
-ghost use Rattle.mt_server.specs.Statuses.{ByDisk, ByDoor, BySpawner, IsBegun, IsOfServe, IsReadyAfter, IsSilent, IsUnopened, StaysOpen};
+ghost use Rattle.mt_server.specs.Running.{DoorIsIdle, LeavesOutside, RunCanBegin, SaysOfStore, ServeHasCause};
+ghost use Rattle.mt_server.specs.Statuses.{IsBegun, IsOfServe, StaysOpen};
 ghost use Rattle.mt_server.specs.Visiting.{EventCounts, EventFaults, EventIsAskedFor, Happens, IsAskedFor, LeavesOpen, ServesLinks, TurnCounts, Visit, end_of, happened_by, served_by};
 
 use crate::came::{Came, Happened};
@@ -46,9 +41,7 @@ fn visit<W: Door, D: Disk, P: Spawner, C: Clock>(
     door: &mut W,
     fresh: bool,
 ) -> Came
-    requires ready { EngineIsReady D.seen D.may_leave disk.old engine.old }
-    requires at_work { AtWork (P.may (P.rule spawner.old)) (P.gives (P.rule spawner.old)) (P.seen spawner.old) (P.held spawner.old) runner.old (D.seen disk.old) engine.old }
-    requires login { runner.old.login ≡ login.now }
+    requires work { WorkIsReady D.seen D.may_leave P.may P.gives P.seen P.held P.rule disk.old spawner.old runner.old engine.old login.now }
     requires back { W.over door.old + W.kept door.old ≡ W.taken door.old }
     requires some { fresh ≡ false → 0 < W.kept door.old }
     ensures visit { (base : State Bytes) (h : History) → Over (D.seen disk.old) engine.old base h → (k : History)
@@ -59,15 +52,12 @@ fn visit<W: Door, D: Disk, P: Spawner, C: Clock>(
         (shop (account_side k (told_size (D.seen disk.new) engine.new) (D.faults disk.new) (told_time (is_some (D.seen disk.old)) (D.moment disk.new)) (C.asked clock.new) (tasks_of (P.seen spawner.new)))
         (door_side (W.waiting door.new) (W.given_back door.new) (W.taken door.new) (W.over door.new) (W.door_faults door.new)))
         × MovesOn D.seen D.moment D.left_since disk.old disk.new engine.new base h k }
-    ensures at_work { AtWork (P.may (P.rule spawner.new)) (P.gives (P.rule spawner.new)) (P.seen spawner.new) (P.held spawner.new) runner.new (D.seen disk.new) engine.new }
-    ensures same { (runner.new.login ≡ runner.old.login) × (runner.new.slots ≡ runner.old.slots) }
-    ensures goes_on { EngineGoesOn D.seen D.may_leave D.faults disk.old disk.new engine.old engine.new }
+    ensures keeps { WorkGoesOn D.seen D.may_leave D.faults P.may P.gives P.seen P.held P.rule C.rule disk.old disk.new spawner.old spawner.new clock.old clock.new runner.old runner.new engine.old engine.new }
     ensures live { end_of result ≢ Some ConnectionEnd.Disk → end_of result ≢ Some ConnectionEnd.Memory → engine.new.log.closed ≡ false }
     ensures by_disk { end_of result ≡ Some ConnectionEnd.Disk → Rose (D.faults disk.old) (D.faults disk.new) }
     ensures counts { TurnCounts result (W.taken door.old) (W.over door.old) (W.door_faults door.old) (W.taken door.new) (W.over door.new) (W.door_faults door.new) }
     ensures asked_for { IsAskedFor fresh result }
     ensures spawn_faults { NeverFell (P.seen spawner.old).faults (P.seen spawner.new).faults }
-    ensures rule { (C.rule clock.new ≡ C.rule clock.old) × (P.rule spawner.new ≡ P.rule spawner.old) }
     ensures back { W.over door.new + W.kept door.new ≡ W.taken door.new }
 {
     match door.next(fresh) {
@@ -187,9 +177,7 @@ fn event<W: Door, D: Disk, P: Spawner, C: Clock>(
     fresh: bool,
     one_left: bool,
 ) -> Happened
-    requires ready { EngineIsReady D.seen D.may_leave disk.old engine.old }
-    requires at_work { AtWork (P.may (P.rule spawner.old)) (P.gives (P.rule spawner.old)) (P.seen spawner.old) (P.held spawner.old) runner.old (D.seen disk.old) engine.old }
-    requires login { runner.old.login ≡ login.now }
+    requires work { WorkIsReady D.seen D.may_leave P.may P.gives P.seen P.held P.rule disk.old spawner.old runner.old engine.old login.now }
     requires back { W.over door.old + W.kept door.old ≡ W.taken door.old }
     requires some { fresh ≡ false → 0 < W.kept door.old }
     ensures happens { (base : State Bytes) (h : History) → Over (D.seen disk.old) engine.old base h → (k : History)
@@ -200,15 +188,12 @@ fn event<W: Door, D: Disk, P: Spawner, C: Clock>(
         (shop (account_side k (told_size (D.seen disk.new) engine.new) (D.faults disk.new) (told_time (is_some (D.seen disk.old)) (D.moment disk.new)) (C.asked clock.new) (tasks_of (P.seen spawner.new)))
         (door_side (W.waiting door.new) (W.given_back door.new) (W.taken door.new) (W.over door.new) (W.door_faults door.new)))
         × MovesOn D.seen D.moment D.left_since disk.old disk.new engine.new base h k }
-    ensures at_work { AtWork (P.may (P.rule spawner.new)) (P.gives (P.rule spawner.new)) (P.seen spawner.new) (P.held spawner.new) runner.new (D.seen disk.new) engine.new }
-    ensures same { (runner.new.login ≡ runner.old.login) × (runner.new.slots ≡ runner.old.slots) }
-    ensures goes_on { EngineGoesOn D.seen D.may_leave D.faults disk.old disk.new engine.old engine.new }
+    ensures keeps { WorkGoesOn D.seen D.may_leave D.faults P.may P.gives P.seen P.held P.rule C.rule disk.old disk.new spawner.old spawner.new clock.old clock.new runner.old runner.new engine.old engine.new }
     ensures live { LeavesOpen result engine.new.log.closed }
     ensures faults { EventFaults result (D.faults disk.old) (P.seen spawner.old).faults (D.faults disk.new) (P.seen spawner.new).faults }
     ensures spawn_faults { NeverFell (P.seen spawner.old).faults (P.seen spawner.new).faults }
     ensures counts { EventCounts result (W.taken door.old) (W.over door.old) (W.door_faults door.old) (W.taken door.new) (W.over door.new) (W.door_faults door.new) }
     ensures asked_for { EventIsAskedFor fresh result }
-    ensures rule { (C.rule clock.new ≡ C.rule clock.old) × (P.rule spawner.new ≡ P.rule spawner.old) }
     ensures back { W.over door.new + W.kept door.new ≡ W.taken door.new }
 {
     match visit(
@@ -242,12 +227,9 @@ fn serve_links<W: Door, D: Disk, P: Spawner, C: Clock>(
     door: &mut W,
     connections: u64,
 ) -> ServeEnd
-    requires ready { EngineIsReady D.seen D.may_leave disk.old engine.old }
-    requires at_work { AtWork (P.may (P.rule spawner.old)) (P.gives (P.rule spawner.old)) (P.seen spawner.old) (P.held spawner.old) runner.old (D.seen disk.old) engine.old }
-    requires login { runner.old.login ≡ login.now }
+    requires work { WorkIsReady D.seen D.may_leave P.may P.gives P.seen P.held P.rule disk.old spawner.old runner.old engine.old login.now }
     requires some { 0 < connections }
-    requires door { W.over door.old + W.kept door.old ≡ W.taken door.old }
-    requires none_kept { W.kept door.old ≡ 0 }
+    requires door { DoorIsIdle (W.taken door.old) (W.over door.old) (W.kept door.old) }
     ensures served { (base : State Bytes) (h : History) → Over (D.seen disk.old) engine.old base h → (k : History)
         × ServesLinks (side_of W.Link.left W.Link.got W.Link.read_faults W.Link.write_faults) W.Link.stays
         (setting false (is_some (D.seen disk.old)) (C.gives (C.rule clock.old)) (P.gives (P.rule spawner.old)) login.now runner.old.slots engine.old.log.limit base) (D.left_since disk.new) (D.may_leave disk.new) connections
@@ -256,15 +238,10 @@ fn serve_links<W: Door, D: Disk, P: Spawner, C: Clock>(
         (shop (account_side k (told_size (D.seen disk.new) engine.new) (D.faults disk.new) (told_time (is_some (D.seen disk.old)) (D.moment disk.new)) (C.asked clock.new) (tasks_of (P.seen spawner.new)))
         (door_side (W.waiting door.new) (W.given_back door.new) (W.taken door.new) (W.over door.new) (W.door_faults door.new)))
         × MovesOn D.seen D.moment D.left_since disk.old disk.new engine.new base h k }
-    ensures at_work { AtWork (P.may (P.rule spawner.new)) (P.gives (P.rule spawner.new)) (P.seen spawner.new) (P.held spawner.new) runner.new (D.seen disk.new) engine.new }
-    ensures same { (runner.new.login ≡ runner.old.login) × (runner.new.slots ≡ runner.old.slots) }
-    ensures by_disk { ByDisk (Status.Serve result) (D.faults disk.old) (D.faults disk.new) }
-    ensures goes_on { EngineGoesOn D.seen D.may_leave D.faults disk.old disk.new engine.old engine.new }
+    ensures keeps { WorkGoesOn D.seen D.may_leave D.faults P.may P.gives P.seen P.held P.rule C.rule disk.old disk.new spawner.old spawner.new clock.old clock.new runner.old runner.new engine.old engine.new }
     ensures live { StaysOpen (Status.Serve result) engine.new.log.closed }
-    ensures by_door { ByDoor (Status.Serve result) connections (W.taken door.old) (W.door_faults door.old) (W.taken door.new) (W.door_faults door.new) }
-    ensures by_spawner { BySpawner (Status.Serve result) (P.seen spawner.old).faults (P.seen spawner.new).faults }
+    ensures cause { ServeHasCause D.faults P.seen W.taken W.door_faults disk.old disk.new spawner.old spawner.new door.old door.new connections (Status.Serve result) }
     ensures spawn_faults { NeverFell (P.seen spawner.old).faults (P.seen spawner.new).faults }
-    ensures rule { (C.rule clock.new ≡ C.rule clock.old) × (P.rule spawner.new ≡ P.rule spawner.old) }
 {
     let mut taken = 0u64;
     let mut over = 0u64;
@@ -305,15 +282,9 @@ pub(crate) fn serve<K: Sink, D: Disk, P: Spawner, C: Clock, W: Door>(
     clock: &mut C,
     door: &mut W,
 ) -> Status
-    requires rest { IsAtRest D.seen D.may_leave disk.old }
-    requires fit { ForSome (D.seen disk.old) Fit }
-    requires login { runner.old.login ≡ login.now }
-    requires nothing_kept { runner.old.kept ≡ [] }
-    requires idle { (P.seen spawner.old).live ≡ [] }
-    requires free { P.held spawner.old ≡ None }
+    requires begin { RunCanBegin D.seen D.may_leave P.seen P.held disk.old spawner.old runner.old login.now }
     requires some { 0 < connections }
-    requires door { W.over door.old + W.kept door.old ≡ W.taken door.old }
-    requires none_kept { W.kept door.old ≡ 0 }
+    requires door { DoorIsIdle (W.taken door.old) (W.over door.old) (W.kept door.old) }
     ensures served { (base : State Bytes) (h : History) → ForSome (D.seen disk.old) (HasHistory base h) → (k : History) × (used : ℕ) ×
         HasServed (side_of W.Link.left W.Link.got W.Link.read_faults W.Link.write_faults) W.Link.stays
         (setting false (is_some (D.seen disk.old)) (C.gives (C.rule clock.old)) (P.gives (P.rule spawner.old)) login.now runner.old.slots limit base) connections
@@ -321,19 +292,10 @@ pub(crate) fn serve<K: Sink, D: Disk, P: Spawner, C: Clock, W: Door>(
         (door_side (W.waiting door.old) (W.given_back door.old) (W.taken door.old) (W.over door.old) (W.door_faults door.old)))) result
         (scene D.seen D.may_leave D.left_since disk.new (shop (account_side k used (D.faults disk.new) (told_time (is_some (D.seen disk.old)) (D.moment disk.new)) (C.asked clock.new) (tasks_of (P.seen spawner.new)))
         (door_side (W.waiting door.new) (W.given_back door.new) (W.taken door.new) (W.over door.new) (W.door_faults door.new)))) }
-    ensures of_serve { IsOfServe result }
-    ensures begun { IsBegun result → (sink.new ≡ sink.old) × ForSome (D.seen disk.old) IsReadable }
-    ensures unopened { IsUnopened result → (door.new ≡ door.old) × (spawner.new ≡ spawner.old) × ForSome (D.seen disk.old) (λ files. LeavesOnly D.moment D.left_since disk.old disk.new (SameLog files)) }
-    ensures silent { IsSilent result → sink.new ≡ sink.old }
-    ensures refused { (why : Unreadable) → result ≡ Status.UnreadableLog why → SaysLine (line_of why) (K.got sink.old) (K.got sink.new) (K.write_faults sink.old) (K.write_faults sink.new)
-        × ForSome (D.seen disk.old) (λ files. IsRefused files why × KeepsLogs D.seen D.may_leave disk.new files) }
-    ensures by_disk { ByDisk result (D.faults disk.old) (D.faults disk.new) }
-    ensures by_spawner { BySpawner result (P.seen spawner.old).faults (P.seen spawner.new).faults }
-    ensures no_child_left { ((P.seen spawner.new).live ≡ []) × (P.held spawner.new ≡ None) }
-    ensures rest { IsReadyAfter result (is_some (D.seen disk.old)) (IsAtRest D.seen D.may_leave disk.new × ForSome (D.seen disk.new) Fit) }
-    ensures by_door { ByDoor result connections (W.taken door.old) (W.door_faults door.old) (W.taken door.new) (W.door_faults door.new) }
-    ensures sink_stays { K.sink_stays sink.old sink.new }
-    ensures rule { (C.rule clock.new ≡ C.rule clock.old) × (P.rule spawner.new ≡ P.rule spawner.old) }
+    ensures of_serve { IsOfServe result × (IsBegun result → sink.new ≡ sink.old) }
+    ensures store { SaysOfStore D.seen D.may_leave D.moment D.left_since K.got K.write_faults disk.old disk.new sink.old sink.new ((door.new ≡ door.old) × (spawner.new ≡ spawner.old)) result }
+    ensures cause { ServeHasCause D.faults P.seen W.taken W.door_faults disk.old disk.new spawner.old spawner.new door.old door.new connections result }
+    ensures outside { LeavesOutside D.seen D.may_leave P.seen P.held P.rule C.rule disk.old disk.new spawner.old spawner.new clock.old clock.new (K.sink_stays sink.old sink.new) result }
 {
     match open_store(alloc, limit, sink, disk) {
         Ok(engine) => {

@@ -40,7 +40,7 @@ use std::alloc::{AllocError, Global};
 pub enum OutcomeEnd {
     /// It was added.
     Added,
-    /// It has no room, and nothing was written.
+    /// It has no room: engine and history are those of before.
     Full,
     /// The spawner failed where it was read, and counted it.
     Unread,

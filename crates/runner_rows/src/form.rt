@@ -38,7 +38,8 @@ impl Form {
         }
     }
 
-    fn turn(
+    /// One turn, at a moment.
+    pub fn turn(
         &mut self,
         alloc: Global,
         disk: &mut Untold,

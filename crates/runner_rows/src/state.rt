@@ -64,7 +64,13 @@ fn open(
     }
 }
 
-// `stopped LIMIT CALL PICK..`: a turn over a copy of a disk.
+// The crew of a row, whose commands do this and whose calls all succeed.
+fn new_crew(alloc: Global, cases: &[Case], row: &Row) -> Result<Form, Stop> {
+    let cases = copied(alloc, cases)?;
+    Form::new(alloc, row, cases, Script::new(alloc))
+}
+
+// `stopped KIND SLOTS LIMIT CALL PICK..`: a turn over a copy of a disk.
 fn stop(
     alloc: Global,
     disk: &Untold,
@@ -72,14 +78,14 @@ fn stop(
     row: &Row,
     out: &mut String,
 ) -> Result<(), Stop> {
-    let limit = row.number(1)?;
-    let call = row.number(2)?;
-    let picks = picks_of(alloc, row, 3)?;
+    let limit = row.number(3)?;
+    let call = row.number(4)?;
+    let picks = picks_of(alloc, row, 5)?;
     let mut failing = Vec::new(alloc);
     failing.push(call)?;
-    let cases = copied(alloc, cases)?;
+    let crew = new_crew(alloc, cases, row)?;
     let copy = Untold::over(alloc, disk)?;
-    put_stopped(alloc, copy, limit, failing, cases, &picks, out)
+    put_stopped(alloc, copy, limit, failing, crew, &picks, out)
 }
 
 // A row of the engine that is there.

@@ -1,11 +1,9 @@
 //! A turn whose disk fails, and what a crash leaves of it.
-use crate::cases::Cases;
-use crate::crew::Crew;
+use crate::form::Form;
 use crate::look::put_place;
 use mt_disk::{CrashError, Pick};
 use mt_engine::Engine;
 use mt_rows::Stop;
-use mt_spawn::{MemSpawner, Script};
 use mt_untold::Untold;
 use std::alloc::Global;
 
@@ -14,7 +12,7 @@ fn put_turn(
     alloc: Global,
     disk: &mut Untold,
     engine: &mut Engine,
-    crew: &mut Crew<MemSpawner<Cases>>,
+    crew: &mut Form,
     out: &mut String,
 ) -> Result<(), Stop> {
     let turn = crew.turn(alloc, disk, engine, 0)?;
@@ -30,18 +28,13 @@ fn opened(alloc: Global, disk: &mut Untold, limit: u64) -> Result<Engine, Stop> 
     }
 }
 
-// The crew of one slot whose commands do this.
-fn crew_of(alloc: Global, cases: Cases) -> Result<Crew<MemSpawner<Cases>>, Stop> {
-    Crew::new(alloc, 1, MemSpawner::new(alloc, cases, Script::new(alloc)))
-}
-
 // An engine and a turn, of whose calls of the disk those of these numbers fail.
 fn put_failing(
     alloc: Global,
     disk: &mut Untold,
     limit: u64,
     failing: Vec<u64>,
-    crew: &mut Crew<MemSpawner<Cases>>,
+    crew: &mut Form,
     out: &mut String,
 ) -> Result<(), Stop> {
     let mut engine = opened(alloc, disk, limit)?;
@@ -81,11 +74,10 @@ pub fn put_stopped(
     mut disk: Untold,
     limit: u64,
     failing: Vec<u64>,
-    cases: Cases,
+    mut crew: Form,
     picks: &[Pick],
     out: &mut String,
 ) -> Result<(), Stop> {
-    let mut crew = crew_of(alloc, cases)?;
     put_failing(alloc, &mut disk, limit, failing, &mut crew, out)?;
     out.push_str("; left ")?;
     put_left(alloc, disk, limit, picks, out)

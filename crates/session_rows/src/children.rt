@@ -50,30 +50,38 @@ impl Work for Echo {
     }
 }
 
+/// Takes the numbers of a row behind its first two words.
+pub fn set_numbers(alloc: Global, numbers: &mut Vec<u64>, row: &Row) -> Result<(), Stop> {
+    *numbers = row.numbers(alloc, 2)?;
+    Ok(())
+}
+
 /// Takes a row of the script of the next children.
 pub fn set_script(alloc: Global, script: &mut Script, row: &Row) -> Result<(), Stop> {
-    let numbers = row.numbers(alloc, 2)?;
     match row.text(1)? {
-        "waits" => script.waits = numbers,
-        "otherwise" => script.otherwise = numbers,
-        "starts-fail" => script.starts_fail = numbers,
-        "waits-fail" => script.waits_fail = numbers,
-        "reads-fail" => script.reads_fail = numbers,
-        _ => return Err(Stop::NoSuchRow),
+        "waits" => set_numbers(alloc, &mut script.waits, row),
+        "otherwise" => set_numbers(alloc, &mut script.otherwise, row),
+        "starts-fail" => set_numbers(alloc, &mut script.starts_fail, row),
+        "waits-fail" => set_numbers(alloc, &mut script.waits_fail, row),
+        "reads-fail" => set_numbers(alloc, &mut script.reads_fail, row),
+        _ => Err(Stop::NoSuchRow),
     }
-    Ok(())
+}
+
+/// Appends a script to one, list by list.
+pub fn extend_script(script: &mut Script, from: &Script) -> Result<(), AllocError> {
+    script.waits.extend_from_slice(&from.waits)?;
+    script.otherwise.extend_from_slice(&from.otherwise)?;
+    script.starts_fail.extend_from_slice(&from.starts_fail)?;
+    script.waits_fail.extend_from_slice(&from.waits_fail)?;
+    script.reads_fail.extend_from_slice(&from.reads_fail)
 }
 
 /// The same script once more.
 pub fn copied(alloc: Global, script: &Script) -> Result<Script, AllocError> {
-    Ok(Script {
-        waits: Vec::from_slice(alloc, &script.waits)?,
-        otherwise: Vec::from_slice(alloc, &script.otherwise)?,
-        starts_fail: Vec::from_slice(alloc, &script.starts_fail)?,
-        waits_fail: Vec::from_slice(alloc, &script.waits_fail)?,
-        waits_lose: Vec::new(alloc),
-        reads_fail: Vec::from_slice(alloc, &script.reads_fail)?,
-    })
+    let mut copy = Script::new(alloc);
+    extend_script(&mut copy, script)?;
+    Ok(copy)
 }
 
 /// What a spawner counted.

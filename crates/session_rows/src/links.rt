@@ -1,9 +1,9 @@
 //! The links that wait at a door.
-ghost use Rattle.std.specs.Prelude.{◌≡◌, IfOk};
+ghost use Rattle.std.specs.Prelude.{◌≡◌, [], IfOk};
 
 use crate::store::Ends;
 use crate::turns::{Client, Coming, TurnDoor};
-use mt_edge::MemLink;
+use mt_edge::{MemDoor, MemLink, MemSource};
 use mt_rows::{Row, Stop};
 use std::alloc::{AllocError, Global};
 use std::mem;
@@ -30,17 +30,33 @@ fn coming_of(row: &Row, place: usize) -> Result<Coming, Stop> {
     }
 }
 
-// A link of these pieces.
-fn client_of(alloc: Global, pieces: &[Ends]) -> Result<Client, Stop> {
-    let Some(last) = pieces.last() else {
-        return Err(Stop::NoSuchRow);
-    };
+// The sources of these pieces, the last one first.
+fn sources_of(alloc: Global, pieces: &[Ends]) -> Result<Vec<MemSource>, AllocError> {
     let mut sources = Vec::new(alloc);
     for ends in pieces {
         sources.push(ends.source(alloc)?)?;
     }
     sources.reverse();
-    Ok(Client::new(sources, last.sink(alloc)?))
+    Ok(sources)
+}
+
+// A link of these pieces.
+fn client_of(alloc: Global, pieces: &[Ends]) -> Result<Client, Stop> {
+    let Some(last) = pieces.last() else {
+        return Err(Stop::NoSuchRow);
+    };
+    let sink = last.sink(alloc)?;
+    Ok(Client::new(sources_of(alloc, pieces)?, sink))
+}
+
+// A link that has one piece.
+fn link_of(alloc: Global, pieces: &[Ends]) -> Result<MemLink, Stop> {
+    let [ends] = pieces else {
+        return Err(Stop::NoSuchRow);
+    };
+    let source = ends.source(alloc)?;
+    let sink = ends.sink(alloc)?;
+    Ok(MemLink { source, sink })
 }
 
 impl Links {
@@ -84,35 +100,45 @@ impl Links {
         !self.order.is_empty()
     }
 
-    /// The links, as they wait. Each has one piece.
-    pub fn waiting(&self, alloc: Global) -> Result<Vec<MemLink>, Stop> {
+    // The links, as they wait. Each has one piece.
+    fn waiting(&self, alloc: Global) -> Result<Vec<MemLink>, Stop> {
         let mut links = Vec::new(alloc);
         for pieces in &self.clients {
-            match pieces.first() {
-                Some(ends) if pieces.len() == 1 => links.push(MemLink {
-                    source: ends.source(alloc)?,
-                    sink: ends.sink(alloc)?,
-                })?,
-                _ => return Err(Stop::NoSuchRow),
-            }
+            links.push(link_of(alloc, pieces.as_slice())?)?;
         }
         Ok(links)
     }
 
-    /// The calls of their door that fail.
-    pub fn failing(&self, alloc: Global) -> Result<Vec<u64>, AllocError> {
-        Vec::from_slice(alloc, &self.calls_fail)
+    // A door at which they wait, of which no call fails.
+    fn door(&self, alloc: Global) -> Result<MemDoor, Stop>
+        ensures { IfOk result (λ d. (d.given_back ≡ []) × (d.taken ≡ 0)) }
+    {
+        Ok(MemDoor::new(alloc, self.waiting(alloc)?)?)
+    }
+
+    /// A door that tells them.
+    pub fn told(&self, alloc: Global) -> Result<MemDoor, Stop>
+        ensures { IfOk result (λ d. (d.given_back ≡ []) × (d.taken ≡ 0)) }
+    {
+        let failing = Vec::from_slice(alloc, &self.calls_fail)?;
+        let door = self.door(alloc)?;
+        Ok(door.failing(failing))
+    }
+
+    // The links, as they come piece by piece.
+    fn coming(&self, alloc: Global) -> Result<Vec<Client>, Stop> {
+        let mut clients = Vec::new(alloc);
+        for pieces in &self.clients {
+            clients.push(client_of(alloc, pieces.as_slice())?)?;
+        }
+        Ok(clients)
     }
 
     /// A door at which they come in their order.
     pub fn turns(&self, alloc: Global) -> Result<TurnDoor, Stop>
         ensures { IfOk result (λ d. (d.taken ≡ 0) × (d.over ≡ 0) × (d.kept ≡ 0)) }
     {
-        let mut clients = Vec::new(alloc);
-        for pieces in &self.clients {
-            clients.push(client_of(alloc, pieces.as_slice())?)?;
-        }
         let order = Vec::from_slice(alloc, &self.order)?;
-        Ok(TurnDoor::new(clients, order))
+        Ok(TurnDoor::new(self.coming(alloc)?, order))
     }
 }

@@ -1,10 +1,10 @@
 //! Sessions and serves over one disk, each with requests, faults and a crash of its own.
-use crate::children::{Counts, set_script};
+use crate::children::{Counts, set_numbers, set_script};
 use crate::links::Links;
 use crate::picks::picks_of;
-use crate::stops::{Attempt, put_stops};
+use crate::stops::{Attempt, files_of, put_stops};
 use crate::store::{Ends, Files, Left, run_over};
-use mt_disk::{CrashError, MemDisk, Pick};
+use mt_disk::{MemDisk, Pick};
 use mt_rows::{Row, Rows, Stop, unescaped};
 use mt_spawn::Script;
 use std::alloc::Global;
@@ -37,15 +37,13 @@ impl Sessions {
     }
 
     fn set_failing(&mut self, alloc: Global, row: &Row) -> Result<(), Stop> {
-        let numbers = row.numbers(alloc, 2)?;
         match row.text(1)? {
-            "disk" => self.disk_fails = numbers,
-            "reads" => self.ends.reads_fail = numbers,
-            "writes" => self.ends.writes_fail = numbers,
-            "door" => self.links.calls_fail = numbers,
-            _ => return Err(Stop::NoSuchRow),
+            "disk" => set_numbers(alloc, &mut self.disk_fails, row),
+            "reads" => set_numbers(alloc, &mut self.ends.reads_fail, row),
+            "writes" => set_numbers(alloc, &mut self.ends.writes_fail, row),
+            "door" => set_numbers(alloc, &mut self.links.calls_fail, row),
+            _ => Err(Stop::NoSuchRow),
         }
-        Ok(())
     }
 
     fn read_files(&mut self, alloc: Global, row: &Row) -> Result<(), Stop> {
@@ -123,54 +121,47 @@ impl Sessions {
     // A line of the requests, with its CR LF; other bytes without.
     fn add_request(&mut self, alloc: Global, line: &str) -> Result<(), Stop> {
         if let Some(bytes) = line.strip_prefix(">| ") {
-            self.ends
-                .requests
-                .extend_from_slice(&unescaped(alloc, bytes.as_bytes())?)?;
-            return Ok(());
+            return add_bytes(alloc, &mut self.ends.requests, bytes);
         }
         let text = line.strip_prefix("> ").unwrap_or("");
-        self.ends
-            .requests
-            .extend_from_slice(&unescaped(alloc, text.as_bytes())?)?;
+        add_bytes(alloc, &mut self.ends.requests, text)?;
         self.ends.requests.extend_from_slice(b"\r\n")?;
         Ok(())
     }
 
-    // A session by the words of a row, then its crash; what that leaves is the store from then on.
-    fn run(&mut self, alloc: Global, row: &Row, out: &mut String) -> Result<(), Stop> {
+    // What a session by the words of a row leaves.
+    fn left(&self, alloc: Global, row: &Row) -> Result<Left, Stop> {
         let words = words_of(alloc, row)?;
-        let left = run_over(
+        run_over(
             alloc,
             &words,
             &self.files,
             &self.ends,
             &self.links,
             &self.disk_fails,
-        )?;
+        )
+    }
+
+    // A session by the words of a row, then its crash; what that leaves is the store from then on.
+    fn run(&mut self, alloc: Global, row: &Row, out: &mut String) -> Result<(), Stop> {
+        let left = self.left(alloc, row)?;
+        left.put(out)?;
         self.take(alloc, left, out)
     }
 
-    // Shows what a run left, and keeps what a crash leaves of it.
+    // Keeps what a crash leaves of what a run left.
     fn take(&mut self, alloc: Global, left: Left, out: &mut String) -> Result<(), Stop> {
-        left.put(out)?;
         self.calls = left.disk.calls();
         self.counts = left.counts;
-        let image = left.disk.crash(&self.picks);
-        self.keep(alloc, image, out)?;
+        self.keep(alloc, left.disk, out)?;
         self.forget_faults(alloc);
         Ok(())
     }
 
-    fn keep(
-        &mut self,
-        alloc: Global,
-        image: Result<MemDisk, CrashError>,
-        out: &mut String,
-    ) -> Result<(), Stop> {
-        match image {
-            Ok(image) => self.files = Files::of(alloc, &image)?,
-            Err(CrashError::NotAnImage) => out.push_str("\n    no image")?,
-            Err(CrashError::Memory) => return Err(Stop::Memory),
+    fn keep(&mut self, alloc: Global, disk: MemDisk, out: &mut String) -> Result<(), Stop> {
+        match files_of(alloc, disk.crash(&self.picks))? {
+            Some(files) => self.files = files,
+            None => out.push_str("\n    no image")?,
         }
         Ok(())
     }
@@ -184,6 +175,13 @@ impl Sessions {
         self.disk_fails.clear();
         self.picks.clear();
     }
+}
+
+// Adds the bytes that a text stands for.
+fn add_bytes(alloc: Global, requests: &mut Vec<u8>, text: &str) -> Result<(), Stop> {
+    let bytes = unescaped(alloc, text.as_bytes())?;
+    requests.extend_from_slice(&bytes)?;
+    Ok(())
 }
 
 fn words_of(alloc: Global, row: &Row) -> Result<Vec<String>, Stop> {

@@ -1,9 +1,9 @@
 //! A session or a serve that is stopped at each call of its disk, and what each kind of crash leaves of it.
 use crate::links::Links;
 use crate::store::{Ends, Files, Left, run_over};
-use mt_disk::{CrashError, Pick};
+use mt_disk::{CrashError, MemDisk, Pick};
 use mt_rows::Stop;
-use std::alloc::Global;
+use std::alloc::{AllocError, Global};
 
 /// What names a position in a reply.
 const POSITION: &[u8] = b"x-marlin-position: ";
@@ -57,20 +57,40 @@ fn last_told(left: &Left) -> &[u8] {
     told
 }
 
-// The position of a store that is opened again, or the status of a session over it.
-fn put_found(alloc: Global, files: &Files, out: &mut String) -> Result<(), Stop> {
+// The words of the session that asks for it.
+fn probe_words(alloc: Global) -> Result<Vec<String>, AllocError> {
     let mut words = Vec::new(alloc);
     for word in SESSION {
         words.push(String::from_str(alloc, word)?)?;
     }
-    let mut probe = Ends::new(alloc);
-    probe.requests.extend_from_slice(PROBE)?;
-    let left = run_over(alloc, &words, files, &probe, &Links::new(alloc), &[])?;
+    Ok(words)
+}
+
+// What it reads.
+fn probe_ends(alloc: Global) -> Result<Ends, AllocError> {
+    let mut ends = Ends::new(alloc);
+    ends.requests.extend_from_slice(PROBE)?;
+    Ok(ends)
+}
+
+// What it leaves of a store that is opened again.
+fn probed(alloc: Global, files: &Files) -> Result<Left, Stop> {
+    let words = probe_words(alloc)?;
+    let ends = probe_ends(alloc)?;
+    run_over(alloc, &words, files, &ends, &Links::new(alloc), &[])
+}
+
+// The position that a session told, or its status.
+fn put_position(left: &Left, out: &mut String) -> Result<(), Stop> {
     if left.status != 0 {
-        write!(out, " status {}", left.status)?;
-        return Ok(());
+        return Ok(write!(out, " status {}", left.status)?);
     }
     put_word(out, position_in(left.sink.written()))
+}
+
+// The position of a store that is opened again, or the status of a session over it.
+fn put_found(alloc: Global, files: &Files, out: &mut String) -> Result<(), Stop> {
+    put_position(&probed(alloc, files)?, out)
 }
 
 fn put_word(out: &mut String, word: &[u8]) -> Result<(), Stop> {
@@ -96,6 +116,26 @@ fn stopped(alloc: Global, run: &Attempt<'_>, fails: &[u64]) -> Result<Left, Stop
     run_over(alloc, run.words, run.files, run.ends, run.links, fails)
 }
 
+/// The files of what a crash left, if it is an image.
+pub fn files_of(alloc: Global, image: Result<MemDisk, CrashError>) -> Result<Option<Files>, Stop> {
+    match image {
+        Ok(image) => Ok(Some(Files::of(alloc, &image)?)),
+        Err(CrashError::NotAnImage) => Ok(None),
+        Err(CrashError::Memory) => Err(Stop::Memory),
+    }
+}
+
+// What a crash by these picks leaves of a run in which this call of the disk fails.
+fn crashed(
+    alloc: Global,
+    run: &Attempt<'_>,
+    call: u64,
+    picks: &[Pick],
+) -> Result<Option<Files>, Stop> {
+    let left = stopped(alloc, run, &[call])?;
+    files_of(alloc, left.disk.crash(picks))
+}
+
 // What a crash leaves of such a run where it leaves so much of as many calls as it may, all but so many at least; and but how many.
 fn image_of(
     alloc: Global,
@@ -106,35 +146,49 @@ fn image_of(
 ) -> Result<(Files, usize), Stop> {
     let picks = [pick; MOST_PICKS];
     for fewer in least..MOST_PICKS {
-        let left = stopped(alloc, run, &[call])?;
-        match left.disk.crash(picks.get(fewer..).unwrap_or(&[])) {
-            Ok(image) => return Ok((Files::of(alloc, &image)?, fewer)),
-            Err(CrashError::NotAnImage) => {}
-            Err(CrashError::Memory) => return Err(Stop::Memory),
+        let picks = picks.get(fewer..).unwrap_or(&[]);
+        if let Some(files) = crashed(alloc, run, call, picks)? {
+            return Ok((files, fewer));
         }
     }
     Err(Stop::NoSuchRow)
 }
 
+// The status of a run in which this call of the disk fails, and the position that was told last.
+fn put_told(left: &Left, call: u64, out: &mut String) -> Result<(), Stop> {
+    write!(out, "\n    call {call}: status {}, told", left.status)?;
+    put_word(out, last_told(left))
+}
+
+// What such a crash leaves of it; and but how many calls.
+fn put_left(
+    alloc: Global,
+    run: &Attempt<'_>,
+    call: u64,
+    pick: Pick,
+    least: usize,
+    out: &mut String,
+) -> Result<usize, Stop> {
+    let (image, fewer) = image_of(alloc, run, call, pick, least)?;
+    put_found(alloc, &image, out)?;
+    Ok(fewer)
+}
+
 // A run in which this call of the disk fails: its status, the position that was told last, and what crashes leave.
 fn put_stop(alloc: Global, run: &Attempt<'_>, call: u64, out: &mut String) -> Result<(), Stop> {
-    let first = stopped(alloc, run, &[call])?;
-    write!(out, "\n    call {call}: status {}, told", first.status)?;
-    put_word(out, last_told(&first))?;
+    put_told(&stopped(alloc, run, &[call])?, call, out)?;
     out.push_str(", left")?;
     let mut least = 0;
     for pick in PICKS {
-        let (image, fewer) = image_of(alloc, run, call, pick, least)?;
-        least = fewer;
-        put_found(alloc, &image, out)?;
+        least = put_left(alloc, run, call, pick, least, out)?;
     }
     Ok(())
 }
 
 /// A line for each call of the disk that the run makes: what is told and what is left where that call fails.
 pub fn put_stops(alloc: Global, run: &Attempt<'_>, out: &mut String) -> Result<(), Stop> {
-    let whole = stopped(alloc, run, &[])?;
-    for call in 0..whole.disk.calls() {
+    let calls = stopped(alloc, run, &[])?.disk.calls();
+    for call in 0..calls {
         put_stop(alloc, run, call, out)?;
     }
     Ok(())

@@ -1,10 +1,10 @@
 //! The files of a store, what is read from and written to, and one run over them.
-ghost use Rattle.std.specs.Prelude.{◌≡◌, ◌<◌, [], length};
+ghost use Rattle.std.specs.Prelude.{◌≡◌, ◌<◌, ◌+◌, [], length};
 
-use crate::children::{Counts, Echo, copied};
+use crate::children::{Counts, Echo, copied, extend_script};
 use crate::links::Links;
 use mt_disk::{FileNo, MemDisk, Room};
-use mt_edge::{LAST_MOMENT, MemClock, MemDoor, MemSink, MemSource};
+use mt_edge::{Door, LAST_MOMENT, MemClock, MemDoor, MemSink, MemSource};
 use mt_rows::{Row, Stop, put_line, put_lines};
 use mt_server::mantad;
 use mt_spawn::{MemSpawner, Script};
@@ -43,20 +43,32 @@ impl Files {
 
     /// Those that a row names behind its call.
     pub fn read(alloc: Global, row: &Row) -> Result<Files, Stop> {
-        Ok(Files {
-            head: Vec::from_slice(alloc, row.bytes(1)?)?,
-            one: Vec::from_slice(alloc, row.bytes(2)?)?,
-            two: Vec::from_slice(alloc, row.bytes(3)?)?,
-        })
+        let head = row.bytes(1)?;
+        let one = row.bytes(2)?;
+        let two = row.bytes(3)?;
+        Ok(Files::holding(alloc, head, one, two)?)
     }
 
     /// Those of a disk.
     pub fn of(alloc: Global, disk: &MemDisk) -> Result<Files, AllocError> {
-        Ok(Files {
-            head: Vec::from_slice(alloc, disk.file(FileNo::Head))?,
-            one: Vec::from_slice(alloc, disk.file(FileNo::One))?,
-            two: Vec::from_slice(alloc, disk.file(FileNo::Two))?,
-        })
+        let head = disk.file(FileNo::Head);
+        let one = disk.file(FileNo::One);
+        let two = disk.file(FileNo::Two);
+        Files::holding(alloc, head, one, two)
+    }
+
+    // Files of these bytes.
+    fn holding(alloc: Global, head: &[u8], one: &[u8], two: &[u8]) -> Result<Files, AllocError> {
+        let mut files = Files::new(alloc);
+        files.extend(head, one, two)?;
+        Ok(files)
+    }
+
+    // Appends these bytes to them.
+    fn extend(&mut self, head: &[u8], one: &[u8], two: &[u8]) -> Result<(), AllocError> {
+        self.head.extend_from_slice(head)?;
+        self.one.extend_from_slice(one)?;
+        self.two.extend_from_slice(two)
     }
 
     /// A line for each file.
@@ -91,13 +103,18 @@ impl Ends {
 
     /// The same once more.
     pub fn copy(&self, alloc: Global) -> Result<Ends, AllocError> {
-        Ok(Ends {
-            requests: Vec::from_slice(alloc, &self.requests)?,
-            reads_fail: Vec::from_slice(alloc, &self.reads_fail)?,
-            writes_fail: Vec::from_slice(alloc, &self.writes_fail)?,
-            moments: Vec::from_slice(alloc, &self.moments)?,
-            script: copied(alloc, &self.script)?,
-        })
+        let mut copy = Ends::new(alloc);
+        copy.extend(self)?;
+        Ok(copy)
+    }
+
+    // Appends others to them, list by list.
+    fn extend(&mut self, from: &Ends) -> Result<(), AllocError> {
+        self.requests.extend_from_slice(&from.requests)?;
+        self.reads_fail.extend_from_slice(&from.reads_fail)?;
+        self.writes_fail.extend_from_slice(&from.writes_fail)?;
+        self.moments.extend_from_slice(&from.moments)?;
+        extend_script(&mut self.script, &from.script)
     }
 
     /// The clock of these moments, which gives the last of them from then on; with none, 0.
@@ -124,6 +141,28 @@ impl Ends {
     pub fn sink(&self, alloc: Global) -> Result<MemSink, AllocError> {
         let sink = MemSink::new(alloc, SINK)?;
         Ok(sink.failing(Vec::from_slice(alloc, &self.writes_fail)?))
+    }
+}
+
+// What is read from and written to, and the clock.
+#[derive(Drop)]
+struct Streams {
+    source: MemSource,
+    sink: MemSink,
+    clock: MemClock,
+}
+
+impl Ends {
+    // The streams and the clock of a run.
+    fn streams(&self, alloc: Global) -> Result<Streams, Stop> {
+        let clock = self.clock(alloc)?;
+        let source = self.source(alloc)?;
+        let sink = self.sink(alloc)?;
+        Ok(Streams {
+            source,
+            sink,
+            clock,
+        })
     }
 }
 
@@ -168,6 +207,42 @@ fn said_to(alloc: Global, door: &MemDoor) -> Result<Vec<Vec<u8>>, AllocError> {
     Ok(said)
 }
 
+// A run over a door, but for what was written to its links.
+fn run_at<W: Door>(
+    alloc: Global,
+    words: &[String],
+    files: &Files,
+    ends: &Ends,
+    disk_fails: &[u64],
+    door: &mut W,
+) -> Result<Left, Stop>
+    requires fit { (files.now.head.items ≡ []) → length files.now.two.items < 9 }
+    requires door { W.over door.old + W.kept door.old ≡ W.taken door.old }
+    requires none_kept { W.kept door.old ≡ 0 }
+{
+    let Files { head, one, two } = files;
+    let mut streams = ends.streams(alloc)?;
+    let mut spawner = MemSpawner::new(alloc, Echo, copied(alloc, &ends.script)?);
+    let mut disk = MemDisk::new(alloc, head, one, two, ROOM, disk_fails)?;
+    let status = mantad(
+        alloc,
+        words,
+        &mut streams.source,
+        &mut streams.sink,
+        &mut disk,
+        &mut spawner,
+        &mut streams.clock,
+        door,
+    );
+    Ok(Left {
+        status,
+        sink: streams.sink,
+        disk,
+        said: Vec::new(alloc),
+        counts: Counts::of(&spawner),
+    })
+}
+
 // A run whose door tells its links.
 fn run_told(
     alloc: Global,
@@ -179,30 +254,10 @@ fn run_told(
 ) -> Result<Left, Stop>
     requires { (files.now.head.items ≡ []) → length files.now.two.items < 9 }
 {
-    let Files { head, one, two } = files;
-    let mut source = ends.source(alloc)?;
-    let mut sink = ends.sink(alloc)?;
-    let mut disk = MemDisk::new(alloc, head, one, two, ROOM, disk_fails)?;
-    let mut door = MemDoor::new(alloc, links.waiting(alloc)?)?.failing(links.failing(alloc)?);
-    let mut spawner = MemSpawner::new(alloc, Echo, copied(alloc, &ends.script)?);
-    let status = mantad(
-        alloc,
-        words,
-        &mut source,
-        &mut sink,
-        &mut disk,
-        &mut spawner,
-        &mut ends.clock(alloc)?,
-        &mut door,
-    );
-    let said = said_to(alloc, &door)?;
-    Ok(Left {
-        status,
-        sink,
-        disk,
-        said,
-        counts: Counts::of(&spawner),
-    })
+    let mut door = links.told(alloc)?;
+    let mut left = run_at(alloc, words, files, ends, disk_fails, &mut door)?;
+    left.said = said_to(alloc, &door)?;
+    Ok(left)
 }
 
 // A run whose door tells nothing.
@@ -216,30 +271,10 @@ fn run_untold(
 ) -> Result<Left, Stop>
     requires { (files.now.head.items ≡ []) → length files.now.two.items < 9 }
 {
-    let Files { head, one, two } = files;
-    let mut source = ends.source(alloc)?;
-    let mut sink = ends.sink(alloc)?;
-    let mut disk = MemDisk::new(alloc, head, one, two, ROOM, disk_fails)?;
     let mut door = links.turns(alloc)?;
-    let mut spawner = MemSpawner::new(alloc, Echo, copied(alloc, &ends.script)?);
-    let status = mantad(
-        alloc,
-        words,
-        &mut source,
-        &mut sink,
-        &mut disk,
-        &mut spawner,
-        &mut ends.clock(alloc)?,
-        &mut door,
-    );
-    let said = door.said(alloc)?;
-    Ok(Left {
-        status,
-        sink,
-        disk,
-        said,
-        counts: Counts::of(&spawner),
-    })
+    let mut left = run_at(alloc, words, files, ends, disk_fails, &mut door)?;
+    left.said = door.said(alloc)?;
+    Ok(left)
 }
 
 /// A run by these words over a disk that holds these files. There is none over a second log without a head.

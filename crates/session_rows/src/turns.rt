@@ -49,6 +49,14 @@ impl Client {
         Some(Next::New(link))
     }
 
+    // What was written to it.
+    fn said(&self, alloc: Global) -> Result<Vec<u8>, AllocError> {
+        match &self.sink {
+            Some(sink) => Vec::from_slice(alloc, sink.written()),
+            None => Ok(Vec::new(alloc)),
+        }
+    }
+
     // Whether it is over once it is given back: no piece is left, or something was left of the last one.
     fn back(&mut self, link: MemLink) -> bool {
         let MemLink { source, sink } = link;
@@ -147,10 +155,7 @@ impl TurnDoor {
     pub fn said(&self, alloc: Global) -> Result<Vec<Vec<u8>>, AllocError> {
         let mut said = Vec::new(alloc);
         for client in &self.plan.clients {
-            said.push(match &client.sink {
-                Some(sink) => Vec::from_slice(alloc, sink.written())?,
-                None => Vec::new(alloc),
-            })?;
+            said.push(client.said(alloc)?)?;
         }
         Ok(said)
     }

@@ -1,5 +1,6 @@
 //! Rows of `mt_join`: a log over a disk, the parts that are stored there, and the body that they are joined to.
 use md5::{Digest, Md5};
+use mt_base::zeros;
 use mt_body::{Storing, read_body, store};
 use mt_disk::{FileNo, Room};
 use mt_edge::MemSource;
@@ -75,17 +76,16 @@ fn stored(
 }
 
 // Stores parts of these lengths, numbered from 0.
-fn put_parts(
+fn parts_of(
     alloc: Global,
     disk: &mut Untold,
     log: &mut Log,
-    row: &Row,
-    out: &mut String,
+    lens: &[u64],
 ) -> Result<Vec<PartRow<Body>>, Stop> {
     let mut parts = Vec::new(alloc);
     let mut number = 0;
-    for len in row.numbers(alloc, 1)? {
-        let body = stored(alloc, disk, log, number, len)?;
+    for len in lens {
+        let body = stored(alloc, disk, log, number, *len)?;
         parts.push(PartRow {
             index: number as u16,
             number: number as u64,
@@ -93,8 +93,50 @@ fn put_parts(
         })?;
         number = number.saturating_add(1);
     }
-    write!(out, "log {}", log.len())?;
     Ok(parts)
+}
+
+// Stores parts of the lengths of a row.
+fn stored_parts(
+    alloc: Global,
+    disk: &mut Untold,
+    log: &mut Log,
+    row: &Row,
+) -> Result<Vec<PartRow<Body>>, Stop> {
+    let lens = row.numbers(alloc, 1)?;
+    parts_of(alloc, disk, log, &lens)
+}
+
+// `stored LENGTH ..`
+fn put_parts(
+    alloc: Global,
+    disk: &mut Untold,
+    log: &mut Log,
+    parts: &mut Vec<PartRow<Body>>,
+    row: &Row,
+    out: &mut String,
+) -> Result<(), Stop> {
+    *parts = stored_parts(alloc, disk, log, row)?;
+    Ok(write!(out, "log {}", log.len())?)
+}
+
+// What became of a join.
+fn put_joining(joining: &Joining, out: &mut String) -> Result<(), AllocError> {
+    match joining {
+        Joining::Joined(body) => {
+            out.push_str("Joined ")?;
+            put_body(out, body)
+        }
+        other => write!(out, "{other:?}"),
+    }
+}
+
+// The body that a join made.
+fn joined(joining: Joining) -> Option<Body> {
+    match joining {
+        Joining::Joined(body) => Some(body),
+        _ => None,
+    }
 }
 
 // Joins the parts in a run, and ends it.
@@ -110,21 +152,19 @@ fn put_joined(
     }
     let mut run = log.begin_run(disk);
     let joining = join(alloc, log, disk, &mut run, parts);
-    let joined = match joining {
-        Joining::Joined(body) => {
-            write!(out, "Joined ")?;
-            put_body(out, &body)?;
-            Some(body)
-        }
-        Joining::Memory => return Err(Stop::Memory),
-        other => {
-            write!(out, "{other:?}")?;
-            None
-        }
-    };
+    if joining == Joining::Memory {
+        return Err(Stop::Memory);
+    }
     let end = log.end_run(disk, run);
+    put_joining(&joining, out)?;
     write!(out, "; {end:?}, log {}; calls {}", log.len(), disk.made())?;
-    Ok(joined)
+    Ok(joined(joining))
+}
+
+// How many bytes were read, and their digest.
+fn put_bytes(bytes: &[u8], out: &mut String) -> Result<(), AllocError> {
+    write!(out, "{} bytes ", bytes.len())?;
+    put_hex(out, &Md5::digest(bytes))
 }
 
 // All bytes of the body.
@@ -138,11 +178,23 @@ fn put_whole(
     if log.is_closed() || body.len > 3 * MOST {
         return Err(Stop::NoSuchRow);
     }
-    let mut bytes = Vec::with_capacity(alloc, body.len as usize)?;
-    bytes.resize(body.len as usize, 0)?;
+    let mut bytes = zeros(alloc, body.len as usize)?;
     let done = read_body(log, disk, body, 0, bytes.as_mut_slice());
-    write!(out, "{done:?} {} bytes ", bytes.len())?;
-    put_hex(out, &Md5::digest(&bytes))?;
+    write!(out, "{done:?} ")?;
+    Ok(put_bytes(&bytes, out)?)
+}
+
+// The log of a disk.
+fn opened(alloc: Global, disk: &mut Untold, limit: u64) -> Result<Log, Stop> {
+    match Log::open(alloc, disk, limit) {
+        Ok(log) => Ok(log),
+        Err(_) => Err(Stop::Memory),
+    }
+}
+
+// `fail CALL ..`: the calls of the disk that fail.
+fn fail(alloc: Global, disk: &mut Untold, row: &Row) -> Result<(), Stop> {
+    disk.fail(row.numbers(alloc, 1)?);
     Ok(())
 }
 
@@ -159,47 +211,43 @@ impl Joins {
 
     // A new log under a limit.
     fn open(&mut self, alloc: Global, row: &Row, out: &mut String) -> Result<(), Stop> {
+        let limit = row.number(1)?;
         let mut disk = Untold::new(alloc, ROOM)?;
-        match Log::open(alloc, &mut disk, row.number(1)?) {
-            Ok(log) => {
-                write!(out, "Ok({})", log.len())?;
-                self.log = Some(log);
-            }
-            Err(_) => return Err(Stop::Memory),
-        }
+        let log = opened(alloc, &mut disk, limit)?;
+        let len = log.len();
+        self.log = Some(log);
         self.disk = Some(disk);
         self.parts = Vec::new(alloc);
         self.body = None;
-        Ok(())
+        Ok(write!(out, "Ok({len})")?)
     }
 
-    // A row of the log that is there. The numbers of `fail` are of its calls of the disk that fail.
+    // A row of the log that is there.
     fn call(&mut self, alloc: Global, row: &Row, out: &mut String) -> Result<(), Stop> {
         let (Some(disk), Some(log)) = (&mut self.disk, &mut self.log) else {
             return Err(Stop::NoSuchRow);
         };
-        match (row.text(0)?, &self.body) {
-            ("fail", _) => disk.fail(row.numbers(alloc, 1)?),
-            ("one", _) => {
-                write!(out, "{} bytes ", disk.file(FileNo::One).len())?;
-                put_hex(out, &Md5::digest(disk.file(FileNo::One)))?;
+        match row.text(0)? {
+            "fail" => fail(alloc, disk, row),
+            "one" => Ok(put_bytes(disk.file(FileNo::One), out)?),
+            "stored" => put_parts(alloc, disk, log, &mut self.parts, row, out),
+            "join" => {
+                self.body = put_joined(alloc, disk, log, &self.parts, out)?;
+                Ok(())
             }
-            ("stored", _) => self.parts = put_parts(alloc, disk, log, row, out)?,
-            ("join", _) => self.body = put_joined(alloc, disk, log, &self.parts, out)?,
-            ("whole", Some(body)) => put_whole(alloc, disk, log, body, out)?,
-            _ => return Err(Stop::NoSuchRow),
+            _ => match &self.body {
+                Some(body) => put_whole(alloc, disk, log, body, out),
+                None => Err(Stop::NoSuchRow),
+            },
         }
-        Ok(())
     }
 
-    /// The answer to a row of this crate, if it is one.
-    pub fn answer(&mut self, alloc: Global, row: &Row, out: &mut String) -> Result<bool, Stop> {
+    /// The answer to a row of this module.
+    pub fn answer(&mut self, alloc: Global, row: &Row, out: &mut String) -> Result<(), Stop> {
         match row.text(0)? {
-            "open" => self.open(alloc, row, out)?,
-            "size" => write!(out, "{}", pieces_size(row.number(1)?))?,
-            "fail" | "one" | "stored" | "join" | "whole" => self.call(alloc, row, out)?,
-            _ => return Ok(false),
+            "open" => self.open(alloc, row, out),
+            "size" => Ok(write!(out, "{}", pieces_size(row.number(1)?))?),
+            _ => self.call(alloc, row, out),
         }
-        Ok(true)
     }
 }

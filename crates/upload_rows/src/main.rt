@@ -30,10 +30,15 @@ impl Rows for Uploads {
         row: &Row,
         out: &mut String,
     ) -> Result<(), Stop> {
-        if documents::answer(alloc, line, row, out)? || self.joins.answer(alloc, row, out)? {
-            return Ok(());
+        match row.text(0)? {
+            "upload" | "upload-bytes" | "numbers" | "numbers-bytes" | "listed" | "state" => {
+                documents::answer(alloc, line, row, out)
+            }
+            "open" | "size" | "fail" | "one" | "stored" | "join" | "whole" => {
+                self.joins.answer(alloc, row, out)
+            }
+            _ => self.steps.answer(alloc, row, out),
         }
-        self.steps.answer(alloc, row, out)
     }
 }
 

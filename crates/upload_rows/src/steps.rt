@@ -8,8 +8,8 @@ use crate::account::{Account, Changed};
 use mt_base::Text;
 use mt_path::Path;
 use mt_rows::{Row, Stop, put_escaped};
-use mt_types::{Body, Entry, LAST_PART, MOST_COMMANDS, PartRow, Refusal, Upload};
-use std::alloc::Global;
+use mt_types::{Body, Entry, LAST_PART, MOST_COMMANDS, Object, PartRow, Refusal, Upload};
+use std::alloc::{AllocError, Global};
 
 /// Whose names the paths are.
 const LOGIN: &str = "l";
@@ -42,21 +42,53 @@ fn index_of(number: u64) -> Result<u16, Stop>
     }
 }
 
+// The content type of a word.
+fn type_at(alloc: Global, row: &Row) -> Result<Text, Stop> {
+    Ok(Text::from_str(alloc, row.text(2)?)?)
+}
+
+// `put PATH LENGTH`
+fn put(account: Account, alloc: Global, row: &Row) -> Changed
+    requires { account.count < MOST_COMMANDS }
+{
+    let len = row.number(2)?;
+    account.put(alloc, path_at(alloc, row)?, len)
+}
+
+// `directory PATH`
+fn make_directory(account: Account, alloc: Global, row: &Row) -> Changed
+    requires { account.count < MOST_COMMANDS }
+{
+    account.make_directory(path_at(alloc, row)?)
+}
+
+// `remove PATH`
+fn remove(account: Account, alloc: Global, row: &Row) -> Changed
+    requires { account.count < MOST_COMMANDS }
+{
+    let path = path_at(alloc, row)?;
+    account.remove(&path)
+}
+
 // `begin PATH TYPE`
 fn begin(account: Account, alloc: Global, row: &Row) -> Changed
     requires { account.count < MOST_COMMANDS }
 {
-    let path = path_at(alloc, row)?;
-    let content_type = Text::from_str(alloc, row.text(2)?)?;
-    account.begin(alloc, path, content_type)
+    let content_type = type_at(alloc, row)?;
+    account.begin(alloc, path_at(alloc, row)?, content_type)
+}
+
+// The three numbers of a row.
+fn numbers_of(row: &Row) -> Result<(u64, u64, u64), Stop> {
+    Ok((row.number(1)?, row.number(2)?, row.number(3)?))
 }
 
 // `part UPLOAD INDEX LENGTH`
 fn put_part(account: Account, alloc: Global, row: &Row) -> Changed
     requires { account.count < MOST_COMMANDS }
 {
-    let index = index_of(row.number(2)?)?;
-    account.put_part(alloc, row.number(1)?, index, row.number(3)?)
+    let (upload, index, len) = numbers_of(row)?;
+    account.put_part(alloc, upload, index_of(index)?, len)
 }
 
 // The account with a part, where that is taken.
@@ -78,7 +110,7 @@ fn with_part(
 
 // `fall UPLOAD COUNT LENGTH`
 fn fall(account: Account, alloc: Global, row: &Row) -> Changed {
-    let (upload, count, len) = (row.number(1)?, row.number(2)?, row.number(3)?);
+    let (upload, count, len) = numbers_of(row)?;
     let mut account = account;
     for index in (0..count).rev() {
         account = with_part(account, alloc, upload, index, len)?;
@@ -115,22 +147,26 @@ fn commit_front(account: Account, alloc: Global, row: &Row) -> Changed
     account.commit(alloc, upload, &numbers)
 }
 
+// `abort UPLOAD`
+fn abort(account: Account, alloc: Global, row: &Row) -> Changed
+    requires { account.count < MOST_COMMANDS }
+{
+    account.abort(alloc, row.number(1)?)
+}
+
 fn changed(account: Account, alloc: Global, row: &Row) -> Changed
     requires { account.count < MOST_COMMANDS }
 {
     match row.text(0)? {
-        "put" => {
-            let path = path_at(alloc, row)?;
-            account.put(alloc, path, row.number(2)?)
-        }
-        "directory" => account.make_directory(path_at(alloc, row)?),
-        "remove" => account.remove(&path_at(alloc, row)?),
+        "put" => put(account, alloc, row),
+        "directory" => make_directory(account, alloc, row),
+        "remove" => remove(account, alloc, row),
         "begin" => begin(account, alloc, row),
         "part" => put_part(account, alloc, row),
         "fall" => fall(account, alloc, row),
         "commit" => commit(account, alloc, row),
         "commit-front" => commit_front(account, alloc, row),
-        "abort" => account.abort(alloc, row.number(1)?),
+        "abort" => abort(account, alloc, row),
         _ => Err(Stop::NoSuchRow),
     }
 }
@@ -148,15 +184,25 @@ fn put_answer(
     Ok(())
 }
 
+fn put_path(alloc: Global, path: &Path, out: &mut String) -> Result<(), AllocError> {
+    put_escaped(out, path.print(alloc, LOGIN)?.as_bytes())
+}
+
+// A content type, behind a text.
+fn put_type(between: &str, content_type: &Text, out: &mut String) -> Result<(), AllocError> {
+    out.push_str(between)?;
+    put_escaped(out, content_type.as_bytes())?;
+    out.push('"')
+}
+
 // How an upload stands.
 fn put_upload(alloc: Global, upload: &Upload<Body>, out: &mut String) -> Result<(), Stop> {
     write!(out, "{} ", upload.number)?;
-    put_escaped(out, upload.path.print(alloc, LOGIN)?.as_bytes())?;
-    out.push_str(" \"")?;
-    put_escaped(out, upload.content_type.as_bytes())?;
+    put_path(alloc, &upload.path, out)?;
+    put_type(" \"", &upload.content_type, out)?;
     write!(
         out,
-        "\" {} {:?} {}",
+        " {} {:?} {}",
         upload.moment,
         upload.stage,
         upload.parts.len()
@@ -173,22 +219,35 @@ fn put_parts(parts: &[PartRow<Body>], out: &mut String) -> Result<(), Stop> {
     Ok(())
 }
 
+fn put_object(object: &Object<Body>, out: &mut String) -> Result<(), AllocError> {
+    write!(
+        out,
+        "{} {} {}",
+        object.number, object.body.len, object.mtime
+    )?;
+    put_type(" \"", &object.content_type, out)
+}
+
 // What stands at a path.
-fn put_entry(entry: Option<&Entry<Body>>, out: &mut String) -> Result<(), Stop> {
+fn put_entry(entry: Option<&Entry<Body>>, out: &mut String) -> Result<(), AllocError> {
     match entry {
-        Some(Entry::Object(object)) => {
-            write!(
-                out,
-                "{} {} {} \"",
-                object.number, object.body.len, object.mtime
-            )?;
-            put_escaped(out, object.content_type.as_bytes())?;
-            out.push('"')?;
-        }
-        Some(Entry::Directory { mtime }) => write!(out, "directory {mtime}")?,
-        None => out.push_str("none")?,
+        Some(Entry::Object(object)) => put_object(object, out),
+        Some(Entry::Directory { mtime }) => write!(out, "directory {mtime}"),
+        None => out.push_str("none"),
     }
-    Ok(())
+}
+
+// `at PATH`
+fn put_at(alloc: Global, account: &Account, row: &Row, out: &mut String) -> Result<(), Stop> {
+    let path = path_at(alloc, row)?;
+    Ok(put_entry(account.tree().get(&path), out)?)
+}
+
+// `joined UPLOAD COUNT`
+fn put_joined(account: &Account, row: &Row, out: &mut String) -> Result<(), Stop> {
+    let count = row.number(2)?;
+    let len = account.uploads().joined_len(row.number(1)?, count as usize);
+    Ok(write!(out, "{len}")?)
 }
 
 // The numbers of all uploads.
@@ -210,25 +269,22 @@ fn put_parts_of(upload: &Upload<Body>, from: u64, out: &mut String) -> Result<()
     }
 }
 
+// An upload, or its parts from a place on.
+fn put_found(alloc: Global, account: &Account, row: &Row, out: &mut String) -> Result<(), Stop> {
+    match account.uploads().get(row.number(1)?) {
+        Some(upload) if row.len() == 2 => put_upload(alloc, upload, out),
+        Some(upload) => put_parts_of(upload, row.number(2)?, out),
+        None => Ok(out.push_str("none")?),
+    }
+}
+
 // What a row asks.
 fn answer(alloc: Global, account: &Account, row: &Row, out: &mut String) -> Result<(), Stop> {
-    match row.call() {
-        b"uploads" => put_all(account, out),
-        b"at" => put_entry(account.tree().get(&path_at(alloc, row)?), out),
-        b"joined" => {
-            let count = row.number(2)?;
-            let len = account.uploads().joined_len(row.number(1)?, count as usize);
-            write!(out, "{len}")?;
-            Ok(())
-        }
-        _ => match account.uploads().get(row.number(1)?) {
-            Some(upload) if row.len() == 2 => put_upload(alloc, upload, out),
-            Some(upload) => put_parts_of(upload, row.number(2)?, out),
-            None => {
-                out.push_str("none")?;
-                Ok(())
-            }
-        },
+    match row.text(0)? {
+        "uploads" => put_all(account, out),
+        "at" => put_at(alloc, account, row, out),
+        "joined" => put_joined(account, row, out),
+        _ => put_found(alloc, account, row, out),
     }
 }
 
@@ -257,14 +313,19 @@ impl Steps {
         Ok(())
     }
 
-    /// The answer to a row of this crate.
+    // A row that asks the account.
+    fn ask(&self, alloc: Global, row: &Row, out: &mut String) -> Result<(), Stop> {
+        match &self.account {
+            Some(account) => answer(alloc, account, row, out),
+            None => Err(Stop::NoSuchRow),
+        }
+    }
+
+    /// The answer to a row of this module.
     pub fn answer(&mut self, alloc: Global, row: &Row, out: &mut String) -> Result<(), Stop> {
-        match row.call() {
-            b"new" => self.clear(alloc),
-            b"look" | b"parts" | b"uploads" | b"joined" | b"at" => match &self.account {
-                Some(account) => answer(alloc, account, row, out),
-                None => Err(Stop::NoSuchRow),
-            },
+        match row.text(0)? {
+            "new" => self.clear(alloc),
+            "look" | "parts" | "uploads" | "joined" | "at" => self.ask(alloc, row, out),
             _ => self.change(alloc, row, out),
         }
     }

@@ -1,5 +1,6 @@
 use Rattle.std.proofs.Common.{◌+◌, ◌<◌, ◌≤◌, ◌⊎◌, ℕ, true, true≢false, refl, sym, ◌∙◌, subst}
 use Rattle.mt_body.specs.Growth.{growth}
+use Rattle.mt_codec.specs.Spelling.{IsWithinLimits}
 use Rattle.mt_engine.specs.Accepting.{HasRoomFor}
 use Rattle.mt_engine.specs.Archiving.{texts_size}
 use Rattle.mt_engine.proofs.Held.{holding_now}
@@ -12,7 +13,7 @@ use Rattle.mt_types.specs.declared.body.Body.{Body}
 use Rattle.mt_types.specs.declared.command.Command.{Command}
 use Rattle.mt_types.specs.declared.limits.TheConstants.{MOST_COMMANDS}
 use Rattle.mt_api.specs.Steps.{Replies}
-use Rattle.mt_api.proofs.Cancels.{cancel_full, lacks, room_any}
+use Rattle.mt_api.proofs.Cancels.{cancel_full, close_limits, lacks, room_any}
 use Rattle.mt_api.proofs.Ends.{held_replied, held_sends, idle_keeps, not_disk, settled_replied}
 use Rattle.mt_api.proofs.Jobs.{job_refuses}
 use Rattle.mt_api.proofs.Plain.{idle}
@@ -27,6 +28,12 @@ pub returns-in-Err-has_room-clause-settles : goal.returns-in-Err-has_room-clause
 returns-in-Err-has_room-clause-settles g c base h asked bytes i e none =
     let d = g.D.Disk in
     (h, (refl, λ is_open. i), idle d.seen d.may_leave d.moment d.left_since c.args.disk.now c.args.engine.now base h c.requires.ready.over.stands i (g.met.D.Disk.only_now c.args.disk.now))
+
+pub has_room-requires : goal.has_room-requires
+has_room-requires g c = record {
+  limits = subst (λ (x : Command Body). IsWithinLimits x) (sym c.close_command-command.ensures.command)
+      (close_limits c.args.job c.args.call.stamp.moment c.blank_archive.result c.requires.cancels.number c.blank_archive.ensures c.requires.ready.moment);
+}
 
 pub end_job-requires-clause-room : goal.end_job-requires-clause-room
 end_job-requires-clause-room g c =

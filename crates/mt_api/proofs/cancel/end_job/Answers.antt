@@ -1,12 +1,15 @@
 use Rattle.std.proofs.Common.{◌++◌, true, Some, inl, refl, sym, ap, ◌∙◌, subst, arith}
+use Rattle.mt_account.specs.Taken.{IsTaken}
 use Rattle.mt_engine.specs.Archiving.{ArchiveIn}
 use Rattle.mt_engine.specs.Current.{EngineState}
 use Rattle.mt_engine.proofs.Ends.{all_of}
 use Rattle.mt_engine.proofs.Held.{told_now}
 use Rattle.mt_codec.specs.Pieces.{blank_body}
+use Rattle.mt_codec.specs.Spelling.{IsWithinLimits}
 use Rattle.mt_log.specs.LogImage.{payloads_of}
 use Rattle.mt_log.specs.RunState.{RunState}
 use Rattle.mt_model.specs.CommandStep.{replay}
+use Rattle.mt_types.specs.Kinds.{kind_of}
 use Rattle.mt_types.specs.declared.command.Archive.{Archive}
 use Rattle.mt_types.specs.declared.command.Command.{Command}
 use Rattle.mt_types.specs.declared.command.Command.TheVariants.{Close}
@@ -14,7 +17,7 @@ use Rattle.mt_types.specs.declared.body.Body.{Body}
 use Rattle.mt_api.specs.Answered.{answer_at, used}
 use Rattle.mt_api.specs.Jobs.{IsJobCallOf, JobIsReady}
 use Rattle.mt_api.specs.Steps.{Settles}
-use Rattle.mt_api.proofs.Cancels.{are_texts, cancel_ready, texts}
+use Rattle.mt_api.proofs.Cancels.{archive_fits, are_texts, cancel_ready, close_limits, texts}
 use Rattle.mt_api.proofs.Ends.{behind_keeps, held_sends, leaves_same, leaves_then}
 use Rattle.mt_api.proofs.Puts.{settles_on}
 use Rattle.mt_api.proofs.cancel.end_job.Goals as goal
@@ -27,30 +30,22 @@ unreachable-requires g c =
     let blank : Archive Body = record { err = blank_body; fail = blank_body; input = blank_body; status = blank_body; out = blank_body } in
     omega (arith, c.in-Full.ensures.places, ap (λ (x : RunState). x.next) c.begin_run-run.ensures.place, (c.requires.room blank).fits)
 
-pub close_command-command-requires-clause-archive : goal.close_command-command-requires-clause-archive
-close_command-command-requires-clause-archive g c =
-    let p = c.in-Stored.ensures.places.0 in
-    record {
-      err = record { placed = p.err; first = tt; len = tt };
-      fail = record { placed = p.fail; first = tt; len = tt };
-      input = record { placed = p.input; first = tt; len = tt };
-      status = record { placed = p.status; first = tt; len = tt };
-      out = record { placed = p.out; first = tt; len = tt };
-    }
-
 pub add_job-requires : goal.add_job-requires
-add_job-requires g c = record {
-  ready = record {
-    over = record {
-      running = c.in-Stored.ensures.goes_on.running;
-      order = c.in-Stored.ensures.goes_on.order;
-      is_open = ap (λ (x : EngineState). x.log.closed) (c.in-Stored.ensures.still_open (λ x. cc)) ∙ c.requires.ready.over.is_open;
-    };
-    moment = c.requires.ready.moment;
-    kind = c.close_command-command.ensures.kind;
-    limits = c.close_command-command.ensures.limits;
-  };
-}
+add_job-requires g c =
+    let is = c.close_command-command.ensures.command in
+    record {
+      ready = record {
+        over = record {
+          running = c.in-Stored.ensures.goes_on.running;
+          order = c.in-Stored.ensures.goes_on.order;
+          is_open = ap (λ (x : EngineState). x.log.closed) (c.in-Stored.ensures.still_open (λ x. cc)) ∙ c.requires.ready.over.is_open;
+        };
+        moment = c.requires.ready.moment;
+        kind = subst (λ (x : Command Body). IsTaken (kind_of x)) (sym is) tt;
+        limits = subst (λ (x : Command Body). IsWithinLimits x) (sym is)
+            (close_limits c.args.job c.args.call.stamp.moment c.in-Stored.archive c.requires.cancels.number (archive_fits c.in-Stored.archive c.in-Stored.ensures.places.0) c.requires.ready.moment);
+      };
+    }
 
 pub returns-in-Stored-clause-settles : goal.returns-in-Stored-clause-settles
 returns-in-Stored-clause-settles g c base h asked bytes i e none =

@@ -16,7 +16,7 @@ use Rattle.mt_reply.specs.Replies.{error_reply}
 use Rattle.mt_api.specs.Steps.{IsHeld, Replies}
 use Rattle.mt_api.specs.declared.answered.Answered.TheVariants as answered
 use Rattle.mt_api.proofs.Adds.{brings_stored, gives_added, held_reply, leaves_added, reached_none, reaches_added, settles_full}
-use Rattle.mt_api.proofs.Ends.{ended_keeps, held_ended, held_replied, leaves_at, leaves_same, memory_not_disk, memory_settles, not_disk, replied_not_disk, settled_ended, settled_replied}
+use Rattle.mt_api.proofs.Ends.{held_ended, held_replied, leaves_at, leaves_same, memory_not_disk, memory_settles, not_disk, replied_not_disk, settled_ended, settled_replied}
 use Rattle.mt_api.proofs.change.add.Goals as goal
 
 pub accept-requires-clause-kind : goal.accept-requires-clause-kind
@@ -99,10 +99,9 @@ returns-in-Refused-clause-settles g c base h qs asked bytes e ready =
 
 pub returns-in-Err-clause-settled : goal.returns-in-Err-clause-settled
 returns-in-Err-clause-settled g c =
-    let d = g.D.Disk in
     let end = c.end_with in
     record {
-      keeps = ended_keeps d.seen d.may_leave d.faults c.args.disk.now end.new.disk end.result answered.Memory c.args.engine.now c.args.run end.new.engine c.requires.ready.over.is_open end.ensures.ends end.ensures.keeps end.ensures.stands end.ensures.disk;
+      keeps = end.ensures.keeps;
       is_settled = settled_ended end.result answered.Memory c.args.engine.now c.args.run end.new.engine end.ensures.ends tt;
       held = held_ended end.result answered.Memory c.args.engine.now c.args.run end.new.engine end.ensures.ends tt;
     }

@@ -41,46 +41,45 @@ returns-in-Memory-clause-goes g c base h asked i e =
     let d = g.D.Disk in
     (h, (refl, λ is_open. i), idle d.seen d.may_leave d.moment d.left_since c.args.disk.now c.args.engine.now base h c.requires.ready.over.stands i (g.met.D.Disk.only_now c.args.disk.now))
 
-pub returns-in-Whole-clause-over : goal.returns-in-Whole-clause-over
-returns-in-Whole-clause-over g c = settled_over c.judge_job.result c.read_rest.new.body.framer.stage c.judge_job.ensures.settled.is_settled c.in-Whole.ensures.over
-
-pub returns-in-Whole-clause-sends : goal.returns-in-Whole-clause-sends
-returns-in-Whole-clause-sends g c = c.judge_job.ensures.settled.sends
-
-pub returns-in-Whole-clause-keeps : goal.returns-in-Whole-clause-keeps
-returns-in-Whole-clause-keeps g c = c.judge_job.ensures.settled.keeps
-
-pub returns-in-Whole-clause-body : goal.returns-in-Whole-clause-body
-returns-in-Whole-clause-body g c =
+pub returns-in-Whole-clause-goes_on : goal.returns-in-Whole-clause-goes_on
+returns-in-Whole-clause-goes_on g c =
     let s = g.S.Source in
-    read_well s.left s.read_faults s.source_stays c.args.stream.now c.read_rest.new.body _ (c.judge_job.result ≡ answered.SourceFault) (settled_not c.judge_job.result c.judge_job.ensures.settled.is_settled) c.read_rest.ensures.body
+    record {
+      over = settled_over c.judge_job.result c.read_rest.new.body.framer.stage c.judge_job.ensures.settled.is_settled c.in-Whole.ensures.over;
+      sends = c.judge_job.ensures.settled.sends;
+      keeps = c.judge_job.ensures.settled.keeps;
+      body = read_well s.left s.read_faults s.source_stays c.args.stream.now c.read_rest.new.body _ (c.judge_job.result ≡ answered.SourceFault) (settled_not c.judge_job.result c.judge_job.ensures.settled.is_settled) c.read_rest.ensures.body;
+    }
 
-pub returns-in-Unfinished-clause-keeps : goal.returns-in-Unfinished-clause-keeps
-returns-in-Unfinished-clause-keeps g c =
+pub returns-in-Unfinished-clause-goes_on : goal.returns-in-Unfinished-clause-goes_on
+returns-in-Unfinished-clause-goes_on g c =
     let d = g.D.Disk in
-    idle_keeps d.seen d.may_leave d.faults c.args.disk.now (answered.Unfinished c.in-Unfinished.ending) c.args.engine.now c.requires.ready.over.is_open c.requires.ready.over.stands (λ x. cc)
+    let s = g.S.Source in
+    record {
+      over = c.in-Unfinished.ensures.over;
+      sends = tt;
+      keeps = idle_keeps d.seen d.may_leave d.faults c.args.disk.now (answered.Unfinished c.in-Unfinished.ending) c.args.engine.now c.requires.ready.over.is_open c.requires.ready.over.stands (λ x. cc);
+      body = read_well s.left s.read_faults s.source_stays c.args.stream.now c.read_rest.new.body _ ((answered.Unfinished c.in-Unfinished.ending) ≡ answered.SourceFault) (λ x. cc) c.read_rest.ensures.body;
+    }
 
-pub returns-in-SourceFault-clause-keeps : goal.returns-in-SourceFault-clause-keeps
-returns-in-SourceFault-clause-keeps g c =
+pub returns-in-SourceFault-clause-goes_on : goal.returns-in-SourceFault-clause-goes_on
+returns-in-SourceFault-clause-goes_on g c =
     let d = g.D.Disk in
-    idle_keeps d.seen d.may_leave d.faults c.args.disk.now answered.SourceFault c.args.engine.now c.requires.ready.over.is_open c.requires.ready.over.stands (λ x. cc)
+    let s = g.S.Source in
+    record {
+      over = tt;
+      sends = tt;
+      keeps = idle_keeps d.seen d.may_leave d.faults c.args.disk.now answered.SourceFault c.args.engine.now c.requires.ready.over.is_open c.requires.ready.over.stands (λ x. cc);
+      body = read_as s.left s.read_faults s.source_stays c.args.stream.now c.read_rest.new.body (c.read_rest.result ≡ rest.SourceFault) _ (λ x. c.in-SourceFault.is) c.read_rest.ensures.body;
+    }
 
-pub returns-in-Memory-clause-keeps : goal.returns-in-Memory-clause-keeps
-returns-in-Memory-clause-keeps g c =
+pub returns-in-Memory-clause-goes_on : goal.returns-in-Memory-clause-goes_on
+returns-in-Memory-clause-goes_on g c =
     let d = g.D.Disk in
-    idle_keeps d.seen d.may_leave d.faults c.args.disk.now answered.Memory c.args.engine.now c.requires.ready.over.is_open c.requires.ready.over.stands memory_not_disk
-
-pub returns-in-Unfinished-clause-body : goal.returns-in-Unfinished-clause-body
-returns-in-Unfinished-clause-body g c =
     let s = g.S.Source in
-    read_well s.left s.read_faults s.source_stays c.args.stream.now c.read_rest.new.body _ ((answered.Unfinished c.in-Unfinished.ending) ≡ answered.SourceFault) (λ x. cc) c.read_rest.ensures.body
-
-pub returns-in-Memory-clause-body : goal.returns-in-Memory-clause-body
-returns-in-Memory-clause-body g c =
-    let s = g.S.Source in
-    read_well s.left s.read_faults s.source_stays c.args.stream.now c.read_rest.new.body _ (answered.Memory ≡ answered.SourceFault) memory_not_source c.read_rest.ensures.body
-
-pub returns-in-SourceFault-clause-body : goal.returns-in-SourceFault-clause-body
-returns-in-SourceFault-clause-body g c =
-    let s = g.S.Source in
-    read_as s.left s.read_faults s.source_stays c.args.stream.now c.read_rest.new.body (c.read_rest.result ≡ rest.SourceFault) _ (λ x. c.in-SourceFault.is) c.read_rest.ensures.body
+    record {
+      over = tt;
+      sends = tt;
+      keeps = idle_keeps d.seen d.may_leave d.faults c.args.disk.now answered.Memory c.args.engine.now c.requires.ready.over.is_open c.requires.ready.over.stands memory_not_disk;
+      body = read_well s.left s.read_faults s.source_stays c.args.stream.now c.read_rest.new.body _ (answered.Memory ≡ answered.SourceFault) memory_not_source c.read_rest.ensures.body;
+    }

@@ -3,7 +3,7 @@ use Rattle.mt_engine.proofs.Held.{holding_in}
 use Rattle.mt_api.specs.Answered.{used}
 use Rattle.mt_api.specs.declared.answered.Answered.TheVariants as answered
 use Rattle.mt_api.specs.declared.bodies.BodyEnd.TheVariants as body_end
-use Rattle.mt_api.proofs.Ends.{ended_keeps, ended_not, held_ended, leaves_same, settled_not, settled_over}
+use Rattle.mt_api.proofs.Ends.{ended_not, ended_over, held_ended, held_sends, leaves_same, settled_not, settled_over}
 use Rattle.mt_api.proofs.Lefts.{all_front, read_as, read_well}
 use Rattle.mt_api.proofs.Puts.{ended_goes, settles_goes, stays_left, whole_next}
 use Rattle.mt_api.proofs.put.finish_body.Goals as goal
@@ -38,50 +38,37 @@ returns-in-SourceFault-clause-goes g c base h qs asked left bytes e w all =
       leaves_same d.moment d.left_since c.args.disk.now end.new.disk base h (end.ensures.any_moment base h qs w.writing),
     )
 
-pub returns-in-Whole-clause-over : goal.returns-in-Whole-clause-over
-returns-in-Whole-clause-over g c = settled_over c.judge_digest.result c.end_body.new.body.framer.stage c.judge_digest.ensures.settled.is_settled c.in-Whole.ensures.over
-
-pub returns-in-Whole-clause-held : goal.returns-in-Whole-clause-held
-returns-in-Whole-clause-held g c = c.judge_digest.ensures.settled.held
-
-pub returns-in-Whole-clause-keeps : goal.returns-in-Whole-clause-keeps
-returns-in-Whole-clause-keeps g c = c.judge_digest.ensures.settled.keeps
-
-pub returns-in-Whole-clause-body : goal.returns-in-Whole-clause-body
-returns-in-Whole-clause-body g c =
+pub returns-in-Whole-clause-goes_on : goal.returns-in-Whole-clause-goes_on
+returns-in-Whole-clause-goes_on g c =
     let s = g.S.Source in
-    read_well s.left s.read_faults s.source_stays c.args.stream.now c.end_body.new.body _ (c.judge_digest.result ≡ answered.SourceFault) (settled_not c.judge_digest.result c.judge_digest.ensures.settled.is_settled) c.end_body.ensures.body
+    record {
+      over = settled_over c.judge_digest.result c.end_body.new.body.framer.stage c.judge_digest.ensures.settled.is_settled c.in-Whole.ensures.over;
+      sends = held_sends c.judge_digest.result (g.D.Disk.seen c.judge_digest.new.disk) c.judge_digest.new.engine c.judge_digest.ensures.settled.held;
+      keeps = c.judge_digest.ensures.settled.keeps;
+      body = read_well s.left s.read_faults s.source_stays c.args.stream.now c.end_body.new.body _ (c.judge_digest.result ≡ answered.SourceFault) (settled_not c.judge_digest.result c.judge_digest.ensures.settled.is_settled) c.end_body.ensures.body;
+    }
 
-pub returns-in-Unfinished-clause-keeps : goal.returns-in-Unfinished-clause-keeps
-returns-in-Unfinished-clause-keeps g c =
+pub returns-in-Unfinished-clause-goes_on : goal.returns-in-Unfinished-clause-goes_on
+returns-in-Unfinished-clause-goes_on g c =
     let d = g.D.Disk in
     let end = c.end_with in
-    ended_keeps d.seen d.may_leave d.faults c.args.disk.now end.new.disk end.result (answered.Unfinished c.in-Unfinished.ending) c.args.engine.now c.args.run end.new.engine c.requires.ready.over.is_open end.ensures.ends end.ensures.keeps end.ensures.stands end.ensures.disk
-
-pub returns-in-Unfinished-clause-held : goal.returns-in-Unfinished-clause-held
-returns-in-Unfinished-clause-held g c =
-    let end = c.end_with in
-    held_ended end.result (answered.Unfinished c.in-Unfinished.ending) c.args.engine.now c.args.run end.new.engine end.ensures.ends tt
-
-pub returns-in-Unfinished-clause-body : goal.returns-in-Unfinished-clause-body
-returns-in-Unfinished-clause-body g c =
     let s = g.S.Source in
-    let end = c.end_with in
-    read_well s.left s.read_faults s.source_stays c.args.stream.now c.end_body.new.body _ (end.result ≡ answered.SourceFault)
-    (ended_not end.result (answered.Unfinished c.in-Unfinished.ending) c.args.engine.now c.args.run end.new.engine end.ensures.ends (λ x. cc)) c.end_body.ensures.body
+    record {
+      over = ended_over end.result (answered.Unfinished c.in-Unfinished.ending) c.args.engine.now c.args.run end.new.engine c.end_body.new.body.framer.stage end.ensures.ends c.in-Unfinished.ensures.over;
+      sends = held_sends end.result (d.seen end.new.disk) end.new.engine (held_ended end.result (answered.Unfinished c.in-Unfinished.ending) c.args.engine.now c.args.run end.new.engine end.ensures.ends tt);
+      keeps = end.ensures.keeps;
+      body = read_well s.left s.read_faults s.source_stays c.args.stream.now c.end_body.new.body _ (end.result ≡ answered.SourceFault)
+          (ended_not end.result (answered.Unfinished c.in-Unfinished.ending) c.args.engine.now c.args.run end.new.engine end.ensures.ends (λ x. cc)) c.end_body.ensures.body;
+    }
 
-pub returns-in-SourceFault-clause-keeps : goal.returns-in-SourceFault-clause-keeps
-returns-in-SourceFault-clause-keeps g c =
+pub returns-in-SourceFault-clause-goes_on : goal.returns-in-SourceFault-clause-goes_on
+returns-in-SourceFault-clause-goes_on g c =
     let d = g.D.Disk in
     let end = c.end_with-in-SourceFault in
-    ended_keeps d.seen d.may_leave d.faults c.args.disk.now end.new.disk end.result answered.SourceFault c.args.engine.now c.args.run end.new.engine c.requires.ready.over.is_open end.ensures.ends end.ensures.keeps end.ensures.stands end.ensures.disk
-
-pub returns-in-SourceFault-clause-held : goal.returns-in-SourceFault-clause-held
-returns-in-SourceFault-clause-held g c =
-    let end = c.end_with-in-SourceFault in
-    held_ended end.result answered.SourceFault c.args.engine.now c.args.run end.new.engine end.ensures.ends tt
-
-pub returns-in-SourceFault-clause-body : goal.returns-in-SourceFault-clause-body
-returns-in-SourceFault-clause-body g c =
     let s = g.S.Source in
-    read_as s.left s.read_faults s.source_stays c.args.stream.now c.end_body.new.body (c.end_body.result ≡ body_end.SourceFault) _ (λ x. c.in-SourceFault.is) c.end_body.ensures.body
+    record {
+      over = ended_over end.result answered.SourceFault c.args.engine.now c.args.run end.new.engine c.end_body.new.body.framer.stage end.ensures.ends tt;
+      sends = held_sends end.result (d.seen end.new.disk) end.new.engine (held_ended end.result answered.SourceFault c.args.engine.now c.args.run end.new.engine end.ensures.ends tt);
+      keeps = end.ensures.keeps;
+      body = read_as s.left s.read_faults s.source_stays c.args.stream.now c.end_body.new.body (c.end_body.result ≡ body_end.SourceFault) _ (λ x. c.in-SourceFault.is) c.end_body.ensures.body;
+    }

@@ -10,7 +10,7 @@ use Rattle.mt_log.specs.RunState.{RunState}
 use Rattle.mt_api.specs.Answered.{used}
 use Rattle.mt_api.specs.Steps.{Goes, HasNoRoom, IsWhole, StoresBody}
 use Rattle.mt_api.specs.declared.answered.Answered.TheVariants as answered
-use Rattle.mt_api.proofs.Ends.{behind_keeps, disk_not_source, ended_keeps, held_ended, leaves_same, leaves_then, memory_not_disk, memory_not_source}
+use Rattle.mt_api.proofs.Ends.{behind_keeps, disk_not_source, ended_over, held_ended, held_sends, leaves_same, leaves_then, memory_not_disk, memory_not_source}
 use Rattle.mt_api.proofs.Lefts.{all_ended, front_of, read_further}
 use Rattle.mt_api.proofs.Puts.{call_there, ended_goes, goes_on, none_taken, nothing_fits, part_next, stays_left}
 use Rattle.mt_api.proofs.put.put.Goals as goal
@@ -145,74 +145,77 @@ end_with-requires-clause-ready g c = record {
   is_open = ap (λ (x : EngineState). x.log.closed) (c.in-SourceFault.ensures.still_open (λ x. cc)) ∙ c.requires.ready.over.is_open;
 }
 
-pub returns-in-Stored-clause-keeps : goal.returns-in-Stored-clause-keeps
-returns-in-Stored-clause-keeps g c =
+pub returns-in-Stored-clause-goes_on : goal.returns-in-Stored-clause-goes_on
+returns-in-Stored-clause-goes_on g c =
     let d = g.D.Disk in
-    behind_keeps d.seen d.may_leave d.faults c.args.disk.now c.store_body.new.disk c.finish_body.new.disk c.finish_body.result c.args.engine.now c.store_body.new.self c.finish_body.new.engine
-    (ap (λ (x : EngineState). x.log.closed) (c.in-Stored.ensures.still_open (λ x. cc)) ∙ c.requires.ready.over.is_open) c.in-Stored.ensures.keeps c.finish_body.ensures.keeps
-
-pub returns-in-Stored-clause-body : goal.returns-in-Stored-clause-body
-returns-in-Stored-clause-body g c =
     let s = g.S.Source in
     let read = c.in-Stored.ensures.stays in
-    read_further s.left s.read_faults s.source_stays g.met.S.Source.source_joined c.args.stream.now c.store_body.new.source c.finish_body.new.stream ⊥ (c.finish_body.result ≡ answered.SourceFault)
-    (record { source = read.0; stays = read.1; after = read.2; reads = c.in-Stored.ensures.reads; failed = λ x. absurd x }) c.finish_body.ensures.body
+    record {
+      over = c.finish_body.ensures.goes_on.over;
+      sends = c.finish_body.ensures.goes_on.sends;
+      keeps = behind_keeps d.seen d.may_leave d.faults c.args.disk.now c.store_body.new.disk c.finish_body.new.disk c.finish_body.result c.args.engine.now c.store_body.new.self c.finish_body.new.engine
+          (ap (λ (x : EngineState). x.log.closed) (c.in-Stored.ensures.still_open (λ x. cc)) ∙ c.requires.ready.over.is_open) c.in-Stored.ensures.keeps c.finish_body.ensures.goes_on.keeps;
+      body = read_further s.left s.read_faults s.source_stays g.met.S.Source.source_joined c.args.stream.now c.store_body.new.source c.finish_body.new.stream ⊥ (c.finish_body.result ≡ answered.SourceFault)
+          (record { source = read.0; stays = read.1; after = read.2; reads = c.in-Stored.ensures.reads; failed = λ x. absurd x }) c.finish_body.ensures.goes_on.body;
+    }
 
-pub returns-in-Full-clause-keeps : goal.returns-in-Full-clause-keeps
-returns-in-Full-clause-keeps g c =
+pub returns-in-Full-clause-goes_on : goal.returns-in-Full-clause-goes_on
+returns-in-Full-clause-goes_on g c =
     let d = g.D.Disk in
-    behind_keeps d.seen d.may_leave d.faults c.args.disk.now c.store_body.new.disk c.refuse_for_room-in-Full.new.disk c.refuse_for_room-in-Full.result c.args.engine.now c.store_body.new.self c.refuse_for_room-in-Full.new.engine
-    (ap (λ (x : EngineState). x.log.closed) (c.in-Full.ensures.still_open (λ x. cc)) ∙ c.requires.ready.over.is_open) c.in-Full.ensures.keeps c.refuse_for_room-in-Full.ensures.keeps
-
-pub returns-in-Full-clause-body : goal.returns-in-Full-clause-body
-returns-in-Full-clause-body g c =
     let s = g.S.Source in
     let read = c.in-Full.ensures.stays in
-    read_further s.left s.read_faults s.source_stays g.met.S.Source.source_joined c.args.stream.now c.store_body.new.source c.refuse_for_room-in-Full.new.stream ⊥ (c.refuse_for_room-in-Full.result ≡ answered.SourceFault)
-    (record { source = read.0; stays = read.1; after = read.2; reads = c.in-Full.ensures.reads; failed = λ x. absurd x }) c.refuse_for_room-in-Full.ensures.body
+    record {
+      over = c.refuse_for_room-in-Full.ensures.goes_on.over;
+      sends = c.refuse_for_room-in-Full.ensures.goes_on.sends;
+      keeps = behind_keeps d.seen d.may_leave d.faults c.args.disk.now c.store_body.new.disk c.refuse_for_room-in-Full.new.disk c.refuse_for_room-in-Full.result c.args.engine.now c.store_body.new.self c.refuse_for_room-in-Full.new.engine
+          (ap (λ (x : EngineState). x.log.closed) (c.in-Full.ensures.still_open (λ x. cc)) ∙ c.requires.ready.over.is_open) c.in-Full.ensures.keeps c.refuse_for_room-in-Full.ensures.goes_on.keeps;
+      body = read_further s.left s.read_faults s.source_stays g.met.S.Source.source_joined c.args.stream.now c.store_body.new.source c.refuse_for_room-in-Full.new.stream ⊥ (c.refuse_for_room-in-Full.result ≡ answered.SourceFault)
+          (record { source = read.0; stays = read.1; after = read.2; reads = c.in-Full.ensures.reads; failed = λ x. absurd x }) c.refuse_for_room-in-Full.ensures.goes_on.body;
+    }
 
-pub returns-in-SourceFault-clause-keeps : goal.returns-in-SourceFault-clause-keeps
-returns-in-SourceFault-clause-keeps g c =
+pub returns-in-SourceFault-clause-goes_on : goal.returns-in-SourceFault-clause-goes_on
+returns-in-SourceFault-clause-goes_on g c =
     let d = g.D.Disk in
     let end = c.end_with in
     let is_open = ap (λ (x : EngineState). x.log.closed) (c.in-SourceFault.ensures.still_open (λ x. cc)) ∙ c.requires.ready.over.is_open in
-    behind_keeps d.seen d.may_leave d.faults c.args.disk.now c.store_body.new.disk end.new.disk end.result c.args.engine.now c.store_body.new.self end.new.engine is_open c.in-SourceFault.ensures.keeps
-    (ended_keeps d.seen d.may_leave d.faults c.store_body.new.disk end.new.disk end.result answered.SourceFault c.store_body.new.self c.store_body.new.run end.new.engine is_open end.ensures.ends end.ensures.keeps end.ensures.stands end.ensures.disk)
-
-pub returns-in-SourceFault-clause-held : goal.returns-in-SourceFault-clause-held
-returns-in-SourceFault-clause-held g c = held_ended c.end_with.result answered.SourceFault c.store_body.new.self c.store_body.new.run c.end_with.new.engine c.end_with.ensures.ends tt
-
-pub returns-in-SourceFault-clause-body : goal.returns-in-SourceFault-clause-body
-returns-in-SourceFault-clause-body g c =
     let read = c.in-SourceFault.ensures.stays in
-    record { source = read.0; stays = read.1; after = read.2; reads = c.in-SourceFault.ensures.reads; failed = λ x. c.in-SourceFault.ensures.failed refl }
-
-pub returns-in-Disk-clause-keeps : goal.returns-in-Disk-clause-keeps
-returns-in-Disk-clause-keeps g c = record {
-  stays = c.in-Disk.ensures.keeps;
-  stands = λ is_open. absurd (true≢false (sym (c.in-Disk.ensures.closed refl) ∙ is_open));
-  live = λ d m. absurd (d refl);
-  disk = λ e. c.in-Disk.ensures.disk refl;
-}
-
-pub returns-in-Disk-clause-body : goal.returns-in-Disk-clause-body
-returns-in-Disk-clause-body g c =
-    let read = c.in-Disk.ensures.stays in
-    record { source = read.0; stays = read.1; after = read.2; reads = c.in-Disk.ensures.reads; failed = λ x. absurd (disk_not_source x) }
-
-pub returns-in-Memory-clause-keeps : goal.returns-in-Memory-clause-keeps
-returns-in-Memory-clause-keeps g c =
-    let d = g.D.Disk in
-    let same = c.in-Memory.ensures.still_open (λ x. cc) in
     record {
-      stays = c.in-Memory.ensures.keeps;
-      stands = subst (λ x. Stands d.seen d.may_leave x c.store_body.new.self.log) (sym (c.in-Memory.ensures.memory refl).0)
-          (subst (λ (x : EngineState). Stands d.seen d.may_leave c.args.disk.now x.log) (sym same) c.requires.ready.over.stands);
-      live = λ d m. absurd (m refl);
-      disk = λ e. absurd (memory_not_disk e);
+      over = ended_over end.result answered.SourceFault c.store_body.new.self c.store_body.new.run end.new.engine c.store_body.new.source.framer.stage end.ensures.ends tt;
+      sends = held_sends end.result (d.seen end.new.disk) end.new.engine (held_ended end.result answered.SourceFault c.store_body.new.self c.store_body.new.run end.new.engine end.ensures.ends tt);
+      keeps = behind_keeps d.seen d.may_leave d.faults c.args.disk.now c.store_body.new.disk end.new.disk end.result c.args.engine.now c.store_body.new.self end.new.engine is_open c.in-SourceFault.ensures.keeps
+          end.ensures.keeps;
+      body = record { source = read.0; stays = read.1; after = read.2; reads = c.in-SourceFault.ensures.reads; failed = λ x. c.in-SourceFault.ensures.failed refl };
     }
 
-pub returns-in-Memory-clause-body : goal.returns-in-Memory-clause-body
-returns-in-Memory-clause-body g c =
+pub returns-in-Disk-clause-goes_on : goal.returns-in-Disk-clause-goes_on
+returns-in-Disk-clause-goes_on g c =
+    let read = c.in-Disk.ensures.stays in
+    record {
+      over = tt;
+      sends = tt;
+      keeps = record {
+        stays = c.in-Disk.ensures.keeps;
+        stands = λ is_open. absurd (true≢false (sym (c.in-Disk.ensures.closed refl) ∙ is_open));
+        live = λ d m. absurd (d refl);
+        disk = λ e. c.in-Disk.ensures.disk refl;
+      };
+      body = record { source = read.0; stays = read.1; after = read.2; reads = c.in-Disk.ensures.reads; failed = λ x. absurd (disk_not_source x) };
+    }
+
+pub returns-in-Memory-clause-goes_on : goal.returns-in-Memory-clause-goes_on
+returns-in-Memory-clause-goes_on g c =
+    let d = g.D.Disk in
+    let same = c.in-Memory.ensures.still_open (λ x. cc) in
     let read = c.in-Memory.ensures.stays in
-    record { source = read.0; stays = read.1; after = read.2; reads = c.in-Memory.ensures.reads; failed = λ x. absurd (memory_not_source x) }
+    record {
+      over = tt;
+      sends = tt;
+      keeps = record {
+        stays = c.in-Memory.ensures.keeps;
+        stands = subst (λ x. Stands d.seen d.may_leave x c.store_body.new.self.log) (sym (c.in-Memory.ensures.memory refl).0)
+            (subst (λ (x : EngineState). Stands d.seen d.may_leave c.args.disk.now x.log) (sym same) c.requires.ready.over.stands);
+        live = λ d m. absurd (m refl);
+        disk = λ e. absurd (memory_not_disk e);
+      };
+      body = record { source = read.0; stays = read.1; after = read.2; reads = c.in-Memory.ensures.reads; failed = λ x. absurd (memory_not_source x) };
+    }

@@ -1,5 +1,5 @@
 use Rattle.mt_reply.specs.Replies.{error_reply}
-use Rattle.mt_api.proofs.Ends.{ended_keeps, ended_settles, held_ended, held_replied, settled_ended, settled_replied}
+use Rattle.mt_api.proofs.Ends.{ended_settles, held_ended, held_replied, settled_ended, settled_replied}
 use Rattle.mt_api.proofs.refuse.refuse_in.Goals as goal
 
 pub returns-clause-settles : goal.returns-clause-settles
@@ -9,10 +9,9 @@ returns-clause-settles g c base h qs before grew w next =
 
 pub returns-clause-settled : goal.returns-clause-settled
 returns-clause-settled g c =
-    let d = g.D.Disk in
     let end = c.end_with in
     record {
-      keeps = ended_keeps d.seen d.may_leave d.faults c.args.disk.now end.new.disk end.result c.refuse-answer.result c.args.engine.now c.args.run end.new.engine c.requires.ready.is_open end.ensures.ends end.ensures.keeps end.ensures.stands end.ensures.disk;
+      keeps = end.ensures.keeps;
       is_settled = settled_ended end.result c.refuse-answer.result c.args.engine.now c.args.run end.new.engine end.ensures.ends (settled_replied c.refuse-answer.result (error_reply c.args.stamp c.args.why) c.refuse-answer.ensures);
       held = held_ended end.result c.refuse-answer.result c.args.engine.now c.args.run end.new.engine end.ensures.ends (held_replied c.refuse-answer.result (error_reply c.args.stamp c.args.why) tt c.refuse-answer.ensures);
     }

@@ -3,7 +3,7 @@ use Rattle.mt_answer.specs.Judging.{len_of, stores_body}
 use Rattle.mt_model.specs.Rows.{Rows}
 use Rattle.mt_types.specs.declared.body.Body.{Body}
 use Rattle.mt_api.specs.declared.answered.Answered.TheVariants as answered
-use Rattle.mt_api.proofs.Ends.{held_sends, idle_keeps, memory_not_disk, memory_not_source}
+use Rattle.mt_api.proofs.Ends.{idle_keeps, memory_not_disk, memory_not_source}
 use Rattle.mt_api.proofs.Plain.{idle}
 use Rattle.mt_api.proofs.request.answer_rows.Goals as goal
 
@@ -20,18 +20,17 @@ pub returns-then-stores_body-clause-goes : goal.returns-then-stores_body-clause-
 returns-then-stores_body-clause-goes g c login told base h i asks =
     c.put.ensures.goes base h (record { login = login; head = c.args.head.now; body = told; moment = c.args.now }) i (c.in-Ok.ensures.call login told asks)
 
-pub returns-then-stores_body-clause-sends : goal.returns-then-stores_body-clause-sends
-returns-then-stores_body-clause-sends g c = held_sends c.put.result (g.D.Disk.seen c.put.new.disk) c.put.new.engine c.put.ensures.held
-
 pub returns-else-stores_body-clause-goes : goal.returns-else-stores_body-clause-goes
 returns-else-stores_body-clause-goes g c login told base h i asks =
     let plain = ap (λ (rows : Rows Body). stores_body len_of c.in-Ok.call.request rows c.in-Ok.call.conditions) (sym c.tree.ensures.rows) ∙ sym c.stores_body.ensures ∙ c.if-stores_body.false in
     c.answer_unstored.ensures.goes base h (record { login = login; head = c.args.head.now; body = told; moment = c.args.now }) i plain (c.in-Ok.ensures.call login told asks)
 
-pub returns-in-Err-clause-keeps : goal.returns-in-Err-clause-keeps
-returns-in-Err-clause-keeps g c =
+pub returns-in-Err-clause-goes_on : goal.returns-in-Err-clause-goes_on
+returns-in-Err-clause-goes_on g c =
     let d = g.D.Disk in
-    idle_keeps d.seen d.may_leave d.faults c.args.disk.now answered.Memory c.args.engine.now c.requires.ready.is_open c.requires.ready.stands memory_not_disk
-
-pub returns-in-Err-clause-body : goal.returns-in-Err-clause-body
-returns-in-Err-clause-body g c = record { source = refl; stays = g.met.S.Source.source_same _; after = refl; reads = omega arith; failed = λ x. absurd (memory_not_source x) }
+    record {
+      over = tt;
+      sends = tt;
+      keeps = idle_keeps d.seen d.may_leave d.faults c.args.disk.now answered.Memory c.args.engine.now c.requires.ready.is_open c.requires.ready.stands memory_not_disk;
+      body = record { source = refl; stays = g.met.S.Source.source_same _; after = refl; reads = omega arith; failed = λ x. absurd (memory_not_source x) };
+    }

@@ -17,7 +17,7 @@ use Rattle.mt_connection.proofs.connection.serve_connection.Goals as goal
 pub loop-answered-init : goal.loop-answered-init
 loop-answered-init g c =
     let d = g.D.Disk in
-    let ready = c.requires.ready in
+    let ready = c.requires.work.ready in
     record {
       so_far = λ base h over. (
         [],
@@ -35,8 +35,13 @@ loop-answered-init g c =
       child = refl;
       login = refl;
       slots = refl;
-      at_work = c.requires.at_work;
+      at_work = c.requires.work.at_work;
     }
+
+pub exchange-requires : goal.exchange-requires
+exchange-requires g c =
+    let i = c.loop-answered.invariant in
+    record { work = record { ready = i.ready; at_work = i.at_work; same_login = i.login ∙ c.requires.work.same_login } }
 
 pub loop-answered-preserved : goal.loop-answered-preserved
 loop-answered-preserved g c =
@@ -69,13 +74,13 @@ loop-answered-preserved g c =
             moves,
           );
       stays = g.L.Both.joined _ _ _ before.stays c.in-Went.ensures.stays;
-      goes_on = goes_on_more d.seen d.may_leave d.faults c.args.disk.now c.loop-answered.disk c.exchange.new.disk c.args.engine.now c.loop-answered.engine c.exchange.new.engine before.ready.is_open before.goes_on c.in-Went.ensures.goes_on;
-      ready = still_ready d.seen d.may_leave d.faults c.loop-answered.disk c.exchange.new.disk c.loop-answered.engine c.exchange.new.engine before.ready c.in-Went.ensures.goes_on is_open;
-      rule = c.in-Went.ensures.rule.0 ∙ before.rule;
-      child = c.in-Went.ensures.rule.1 ∙ before.child;
-      login = c.in-Went.ensures.same.0 ∙ before.login;
-      slots = c.in-Went.ensures.same.1 ∙ before.slots;
-      at_work = c.in-Went.ensures.at_work;
+      goes_on = goes_on_more d.seen d.may_leave d.faults c.args.disk.now c.loop-answered.disk c.exchange.new.disk c.args.engine.now c.loop-answered.engine c.exchange.new.engine before.ready.is_open before.goes_on c.in-Went.ensures.keeps.goes_on;
+      ready = still_ready d.seen d.may_leave d.faults c.loop-answered.disk c.exchange.new.disk c.loop-answered.engine c.exchange.new.engine before.ready c.in-Went.ensures.keeps.goes_on is_open;
+      rule = c.in-Went.ensures.keeps.rule.0 ∙ before.rule;
+      child = c.in-Went.ensures.keeps.rule.1 ∙ before.child;
+      login = c.in-Went.ensures.keeps.same.0 ∙ before.login;
+      slots = c.in-Went.ensures.keeps.same.1 ∙ before.slots;
+      at_work = c.in-Went.ensures.keeps.at_work;
     }
 
 pub returns-then-last-clause-served : goal.returns-then-last-clause-served
@@ -102,15 +107,21 @@ returns-then-last-clause-served g c base h over =
       next.0,
       served_closed s (d.left_since new) c.args.most _ refl so_far.0 here.0 _ few (closing_more so_far.0 here.0 _ so_far.4 (here.1 ∙ c.if-last.true)) (ran_more s _ so_far.0 _ (here.0 ∷ []) _ so_far.4 so_far.2 here.2)
           (stand_step s (d.left_since new) (d.left_since disk) (d.moment disk) m (λ is. goes_from d.moment d.left_since disk new base m next.0 (next.2.any_moment (told ∙ is))) h (told_time knows (d.moment old)) so_far.0 (told_time knows (d.moment disk)) here.0 (told_time knows (d.moment new)) (not_later knows (d.moment disk)) so_far.2.history so_far.3 here.3),
-      (λ is. images_open d.seen d.may_leave new c.exchange.new.engine base next.0 c.in-Went.ensures.goes_on.stands is_open (next.2.over is_open) (c.in-Went.ensures.goes_on.stays.told is_open ∙ (told ∙ is))),
+      (λ is. images_open d.seen d.may_leave new c.exchange.new.engine base next.0 c.in-Went.ensures.keeps.goes_on.stands is_open (next.2.over is_open) (c.in-Went.ensures.keeps.goes_on.stays.told is_open ∙ (told ∙ is))),
       moves,
     )
 
-pub returns-then-last-clause-goes_on : goal.returns-then-last-clause-goes_on
-returns-then-last-clause-goes_on g c =
+pub returns-then-last-clause-keeps : goal.returns-then-last-clause-keeps
+returns-then-last-clause-keeps g c =
     let d = g.D.Disk in
     let before = c.loop-answered.invariant in
-    goes_on_more d.seen d.may_leave d.faults c.args.disk.now c.loop-answered.disk c.exchange.new.disk c.args.engine.now c.loop-answered.engine c.exchange.new.engine before.ready.is_open before.goes_on c.in-Went.ensures.goes_on
+    let k = c.in-Went.ensures.keeps in
+    record {
+      at_work = k.at_work;
+      same = (k.same.0 ∙ before.login, k.same.1 ∙ before.slots);
+      goes_on = goes_on_more d.seen d.may_leave d.faults c.args.disk.now c.loop-answered.disk c.exchange.new.disk c.args.engine.now c.loop-answered.engine c.exchange.new.engine before.ready.is_open before.goes_on k.goes_on;
+      rule = (k.rule.0 ∙ before.rule, k.rule.1 ∙ before.child);
+    }
 
 pub returns-in-Over-clause-served : goal.returns-in-Over-clause-served
 returns-in-Over-clause-served g c base h over =
@@ -141,14 +152,20 @@ returns-in-Over-clause-served g c base h over =
 -- the end is that over any history that the disk stands for, of which there is one
 pub returns-in-Over-clause-complete : goal.returns-in-Over-clause-complete
 returns-in-Over-clause-complete g c =
-    let o = some_over (g.D.Disk.seen c.args.disk.now) c.args.engine.now c.requires.ready.is_open c.requires.ready.serves in
+    let o = some_over (g.D.Disk.seen c.args.disk.now) c.args.engine.now c.requires.work.ready.is_open c.requires.work.ready.serves in
     served_by_fault _ _ _ _ c.in-Over.end _ (returns-in-Over-clause-served g c o.0 o.1 o.2).1
 
-pub returns-in-Over-clause-goes_on : goal.returns-in-Over-clause-goes_on
-returns-in-Over-clause-goes_on g c =
+pub returns-in-Over-clause-keeps : goal.returns-in-Over-clause-keeps
+returns-in-Over-clause-keeps g c =
     let d = g.D.Disk in
     let before = c.loop-answered.invariant in
-    goes_on_more d.seen d.may_leave d.faults c.args.disk.now c.loop-answered.disk c.exchange.new.disk c.args.engine.now c.loop-answered.engine c.exchange.new.engine before.ready.is_open before.goes_on c.in-Over.ensures.goes_on
+    let k = c.in-Over.ensures.keeps in
+    record {
+      at_work = k.at_work;
+      same = (k.same.0 ∙ before.login, k.same.1 ∙ before.slots);
+      goes_on = goes_on_more d.seen d.may_leave d.faults c.args.disk.now c.loop-answered.disk c.exchange.new.disk c.args.engine.now c.loop-answered.engine c.exchange.new.engine before.ready.is_open before.goes_on k.goes_on;
+      rule = (k.rule.0 ∙ before.rule, k.rule.1 ∙ before.child);
+    }
 
 pub returns-clause-served : goal.returns-clause-served
 returns-clause-served g c base h over =
@@ -162,3 +179,8 @@ returns-clause-served g c base h over =
       (λ is. images_open d.seen d.may_leave c.loop-answered.disk c.loop-answered.engine base so_far.1 before.goes_on.stands before.ready.is_open (so_far.6.over before.ready.is_open) (told ∙ is)),
       so_far.6,
     )
+
+pub returns-clause-keeps : goal.returns-clause-keeps
+returns-clause-keeps g c =
+    let i = c.loop-answered.invariant in
+    record { at_work = i.at_work; same = (i.login, i.slots); goes_on = i.goes_on; rule = (i.rule, i.child) }

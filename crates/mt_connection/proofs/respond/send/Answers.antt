@@ -1,10 +1,15 @@
--- The head alone.
+-- The head alone; and a part is asked for that is there.
 use Rattle.std.proofs.Common.{ap, sym, subst, ◌∙◌, ◌-◌, List, ℕ}
 use Rattle.mt_http.specs.Options as options
 use Rattle.mt_http.specs.ReplyText.{head_text}
 use Rattle.mt_connection.specs.Steps.{CanBeRead, IsBodyOf, Sends}
 use Rattle.mt_connection.proofs.Sending.{bare_text, some_bytes}
 use Rattle.mt_connection.proofs.respond.send.Goals as goal
+
+pub send_part-requires-clause-ready : goal.send_part-requires-clause-ready
+send_part-requires-clause-ready g c =
+    let shown = subst (λ r. CanBeRead (g.D.Disk.seen c.args.disk.now) r) c.in-Part.is c.requires.shown in
+    record { there = c.requires.ready.there; is_open = c.requires.ready.is_open; stored = shown.2 }
 
 pub returns-then-is_bare-clause-sends : goal.returns-then-is_bare-clause-sends
 returns-then-is_bare-clause-sends g c =

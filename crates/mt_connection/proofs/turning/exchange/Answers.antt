@@ -19,7 +19,7 @@ use Rattle.mt_connection.proofs.turning.exchange.Goals as goal
 pub turn-turn-requires-clause-ready : goal.turn-turn-requires-clause-ready
 turn-turn-requires-clause-ready g c =
     let d = g.D.Disk in
-    still_ready d.seen d.may_leave d.faults c.args.disk.now c.answer_message.new.disk c.args.engine.now c.answer_message.new.engine c.requires.ready c.in-Went.ensures.goes_on (c.in-Went.ensures.live (went_on _ _) (went_on _ _))
+    still_ready d.seen d.may_leave d.faults c.args.disk.now c.answer_message.new.disk c.args.engine.now c.answer_message.new.engine c.requires.work.ready c.in-Went.ensures.goes_on (c.in-Went.ensures.live (went_on _ _) (went_on _ _))
 
 pub turn-turn-requires-clause-at_work : goal.turn-turn-requires-clause-at_work
 turn-turn-requires-clause-at_work g c =
@@ -27,9 +27,9 @@ turn-turn-requires-clause-at_work g c =
     let p = g.P.Spawner in
     let spawner = c.args.spawner.now in
     at_work_more c.args.runner.now.login (p.gives (p.rule spawner)) (p.may (p.rule spawner)) (p.seen spawner) (p.held spawner) c.args.runner.now (d.seen c.args.disk.now) (d.seen c.answer_message.new.disk) c.args.engine.now c.answer_message.new.engine refl
-    c.requires.ready.is_open c.requires.ready.serves c.in-Went.ensures.goes_on.stays.told
+    c.requires.work.ready.is_open c.requires.work.ready.serves c.in-Went.ensures.goes_on.stays.told
     (λ base h over. let a = c.in-Went.ensures.takes c.args.runner.now.slots (tasks_of (p.seen spawner)) base h over in (a.0, a.2.front, a.2.over))
-    c.requires.at_work
+    c.requires.work.at_work
 
 pub returns-in-Went-clause-step : goal.returns-in-Went-clause-step
 returns-in-Went-clause-step g c base h over =
@@ -55,7 +55,7 @@ returns-in-Went-clause-step g c base h over =
     let behind = λ (b : Bool) (n : History). account_side n (told_size (d.seen new) engine') (d.faults new) (told_time b (d.moment new)) (k.asked c.turn-turn.new.clock) (tasks_of (p.seen c.turn-turn.new.spawner)) in
     let t = at_setting k.gives p.gives base (λ (b : Bool) (w : Working). Took d.seen d.may_leave d.moment d.left_since b w mid new engine' c.turn-turn.result base m (at b) (behind b))
     knows (is_some (d.seen mid)) (k.rule c.args.clock.now) (k.rule c.answer_message.new.clock) (p.rule spawner) (p.rule spawner) c.args.login.now runner.login runner.slots runner.slots c.args.engine.now.log.limit engine.log.limit
-    told c.in-Went.ensures.rule refl c.requires.login refl (c.in-Went.ensures.goes_on.stays.limit is_open) (c.turn-turn.ensures.takes base m (a.2.over is_open)) in
+    told c.in-Went.ensures.rule refl c.requires.work.same_login refl (c.in-Went.ensures.goes_on.stays.limit is_open) (c.turn-turn.ensures.takes base m (a.2.over is_open)) in
     let link = side c.answer_message.new.link in
     let turn_moves : MovesOn d.seen d.moment d.left_since mid new engine' base m t.0 = record { over = t.2; front = t.3; any_moment = λ is. t.5 (sym told ∙ is) } in
     let stepped = turned_here (is_some (g.L.Source.left c.args.link.now)) knows (k.gives (k.rule c.args.clock.now)) (p.gives (p.rule spawner)) c.args.login.now runner.slots c.args.engine.now.log.limit base
@@ -67,10 +67,16 @@ returns-in-Went-clause-step g c base h over =
       moves_more d.seen d.moment d.left_since old mid new engine engine' base h m t.0 told a.2 turn_moves,
     )
 
-pub returns-in-Went-clause-goes_on : goal.returns-in-Went-clause-goes_on
-returns-in-Went-clause-goes_on g c =
+pub returns-in-Went-clause-keeps : goal.returns-in-Went-clause-keeps
+returns-in-Went-clause-keeps g c =
     let d = g.D.Disk in
-    goes_on_more d.seen d.may_leave d.faults c.args.disk.now c.answer_message.new.disk c.turn-turn.new.disk c.args.engine.now c.answer_message.new.engine c.turn-turn.new.engine (c.in-Went.ensures.live (went_on _ _) (went_on _ _)) c.in-Went.ensures.goes_on c.turn-turn.ensures.goes_on
+    let t = c.turn-turn.ensures in
+    record {
+      at_work = t.at_work;
+      same = (t.same.1, t.same.0);
+      goes_on = goes_on_more d.seen d.may_leave d.faults c.args.disk.now c.answer_message.new.disk c.turn-turn.new.disk c.args.engine.now c.answer_message.new.engine c.turn-turn.new.engine (c.in-Went.ensures.live (went_on _ _) (went_on _ _)) c.in-Went.ensures.goes_on t.goes_on;
+      rule = (t.rule.1 ∙ c.in-Went.ensures.rule, t.rule.0);
+    }
 
 pub returns-in-Went-clause-live : goal.returns-in-Went-clause-live
 returns-in-Went-clause-live g c disk memory =
@@ -90,12 +96,17 @@ returns-in-Over-clause-step g c base h over =
       a.2,
     )
 
-pub returns-in-Over-clause-at_work : goal.returns-in-Over-clause-at_work
-returns-in-Over-clause-at_work g c =
+pub returns-in-Over-clause-keeps : goal.returns-in-Over-clause-keeps
+returns-in-Over-clause-keeps g c =
     let d = g.D.Disk in
     let p = g.P.Spawner in
     let spawner = c.args.spawner.now in
-    at_work_more c.args.runner.now.login (p.gives (p.rule spawner)) (p.may (p.rule spawner)) (p.seen spawner) (p.held spawner) c.args.runner.now (d.seen c.args.disk.now) (d.seen c.answer_message.new.disk) c.args.engine.now c.answer_message.new.engine refl
-    c.requires.ready.is_open c.requires.ready.serves c.in-Over.ensures.goes_on.stays.told
-    (λ base h over. let a = c.in-Over.ensures.takes c.args.runner.now.slots (tasks_of (p.seen spawner)) base h over in (a.0, a.2.front, a.2.over))
-    c.requires.at_work
+    record {
+      at_work = at_work_more c.args.runner.now.login (p.gives (p.rule spawner)) (p.may (p.rule spawner)) (p.seen spawner) (p.held spawner) c.args.runner.now (d.seen c.args.disk.now) (d.seen c.answer_message.new.disk) c.args.engine.now c.answer_message.new.engine refl
+          c.requires.work.ready.is_open c.requires.work.ready.serves c.in-Over.ensures.goes_on.stays.told
+          (λ base h over. let a = c.in-Over.ensures.takes c.args.runner.now.slots (tasks_of (p.seen spawner)) base h over in (a.0, a.2.front, a.2.over))
+          c.requires.work.at_work;
+      same = (refl, refl);
+      goes_on = c.in-Over.ensures.goes_on;
+      rule = (c.in-Over.ensures.rule, refl);
+    }

@@ -1,5 +1,5 @@
 -- A piece more, or a command.
-use Rattle.std.proofs.Common.{◌≡◌, ◌-◌, ◌+◌, length, ap, sym, ◌∙◌, subst, arith}
+use Rattle.std.proofs.Common.{◌≡◌, ◌-◌, ◌+◌, length, refl, ap, sym, ◌∙◌, subst, arith}
 use Rattle.mt_log.specs.LogState.{next_place, told}
 use Rattle.mt_log.specs.Places.{first_payload, payload_at}
 use Rattle.mt_log.proofs.Places.{record_within}
@@ -11,10 +11,15 @@ use Rattle.mt_engine.proofs.load.load_one.Goals as goal
 
 pub load_command-requires-clause-ready : goal.load_command-requires-clause-ready
 load_command-requires-clause-ready g c = record {
-  there = there_on g.D.Disk.seen c.args.disk.now c.head_at.new.disk c.args.log.now c.in_ok-head.ensures.read.seen_same c.requires.ready.there;
+  there = there_on g.D.Disk.seen c.args.disk.now c.head_at.new.disk c.args.log.now c.in_ok-head.ensures.looks.read.seen_same c.requires.ready.there;
   is_open = c.requires.ready.is_open;
-  place = λ ps is. c.requires.ready.place ps (sym (ap told c.in_ok-head.ensures.read.seen_same) ∙ is);
+  place = λ ps is. c.requires.ready.place ps (sym (ap told c.in_ok-head.ensures.looks.read.seen_same) ∙ is);
 }
+
+pub returns-in_err-head-clause-looks : goal.returns-in_err-head-clause-looks
+returns-in_err-head-clause-looks g c =
+    let looks = c.in_err-head.ensures.looks in
+    record { read = looks.read; stays = looks.stays; disk = λ is. looks.disk refl; faults = looks.faults }
 
 pub returns-in-None-clause-foreign : goal.returns-in-None-clause-foreign
 returns-in-None-clause-foreign g c why is ps told_is =
@@ -36,4 +41,4 @@ pub returns-clause-loading : goal.returns-clause-loading
 returns-clause-loading g c ps is =
     let head = c.in_ok-head.ensures.head ps is in
     subst (λ n. IsLoading ps n c.load_command.new.account c.args.places.now.earlier.items c.args.places.now.last) (sym (c.in-Some.ensures.place.0 ∙ ap (next_place c.args.place) head.0))
-    (c.in_ok-load_command.ensures.loading ps (ap told c.in_ok-head.ensures.read.seen_same ∙ is))
+    (c.in_ok-load_command.ensures.loading ps (ap told c.in_ok-head.ensures.looks.read.seen_same ∙ is))

@@ -1,14 +1,8 @@
 -- Why the engine was not opened gives the status.
 use Rattle.std.proofs.Common.{◌≡◌, Err, ap}
 use Rattle.mt_server.specs.declared.status.Status.TheVariants as status
-use Rattle.mt_server.proofs.Opened.{serves_opened}
 use Rattle.mt_server.proofs.Unopened.{told_why, unopened_by}
 use Rattle.mt_server.proofs.opening.open_store.Goals as goal
-
-pub returns-in-Ok-clause-ready : goal.returns-in-Ok-clause-ready
-returns-in-Ok-clause-ready g c =
-    let e = c.in-Ok.ensures in
-    record { stands = e.stands; is_open = e.live; version = e.version; serves = serves_opened _ _ _ e.tells e.current e.opened }
 
 pub returns-in-Err-clause-unopened : goal.returns-in-Err-clause-unopened
 returns-in-Err-clause-unopened g c = unopened_by c.in-Err.end c.not_opened.result _ _ _ _ _ _ c.not_opened.ensures.tells (λ is. c.in-Err.ensures.disk (ap (λ e. Err e) is))

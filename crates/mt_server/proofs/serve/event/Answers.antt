@@ -11,7 +11,7 @@ use Rattle.mt_connection.specs.Sides.{side_of}
 use Rattle.mt_connection.specs.Steps.{MovesOn}
 use Rattle.mt_connection.specs.Transcript.{setting, working}
 use Rattle.mt_connection.proofs.Completeness.{some_over}
-use Rattle.mt_connection.proofs.Crashes.{moves_more}
+use Rattle.mt_connection.proofs.Crashes.{goes_on_more, moves_more}
 use Rattle.mt_server.specs.Events.{door_side}
 use Rattle.mt_server.specs.Guarantees.{shop}
 use Rattle.mt_server.specs.Visiting.{EventFaults, Happens}
@@ -22,6 +22,25 @@ use Rattle.mt_server.proofs.Later.{goes_by}
 use Rattle.mt_server.proofs.Overs.{no_break}
 use Rattle.mt_server.proofs.Turns.{drained_faults}
 use Rattle.mt_server.proofs.serve.event.Goals as goal
+
+pub drain-last-requires-clause-ready : goal.drain-last-requires-clause-ready
+drain-last-requires-clause-ready g c =
+    let no = no_break c.in-Had.end (sym c.end_breaks.ensures ∙ c.in_default.is) in
+    let is_open = c.in-Had.ensures.live no.0 no.1 in
+    let went = c.in-Had.ensures.keeps.goes_on in
+    record { stands = went.stands; is_open = is_open; version = went.stays.version is_open ∙ c.requires.work.ready.version; serves = went.serves }
+
+pub drain-last-requires-clause-at_work : goal.drain-last-requires-clause-at_work
+drain-last-requires-clause-at_work g c = c.visit.ensures.keeps.at_work
+
+pub drain-last-requires-in-Woke-clause-ready : goal.drain-last-requires-in-Woke-clause-ready
+drain-last-requires-in-Woke-clause-ready g c =
+    let is_open = c.in-Woke.ensures.live (none-some _) (none-some _) in
+    let went = c.in-Woke.ensures.keeps.goes_on in
+    record { stands = went.stands; is_open = is_open; version = went.stays.version is_open ∙ c.requires.work.ready.version; serves = went.serves }
+
+pub drain-last-requires-in-Woke-clause-at_work : goal.drain-last-requires-in-Woke-clause-at_work
+drain-last-requires-in-Woke-clause-at_work g c = c.visit.ensures.keeps.at_work
 
 pub returns-in-Some-clause-happens : goal.returns-in-Some-clause-happens
 returns-in-Some-clause-happens g c base h over =
@@ -60,13 +79,13 @@ returns-in-Had-clause-happens g c base h over =
     let none = sym c.end_breaks.ensures ∙ c.in_default.is in
     let no = no_break c.in-Had.end none in
     let is_open = c.in-Had.ensures.live no.0 no.1 in
-    let told = c.in-Had.ensures.goes_on.stays.told is_open in
+    let told = c.in-Had.ensures.keeps.goes_on.stays.told is_open in
     let before = account_side h (told_size (d.seen old) c.args.engine.now) (d.faults old) (told_time knows (d.moment old)) (k.asked c.args.clock.now) (tasks_of (p.seen c.args.spawner.now)) in
     let at = λ (b : Bool). account_side v.0 (told_size (d.seen mid) c.visit.new.engine) (d.faults mid) (told_time b (d.moment mid)) (k.asked c.visit.new.clock) (tasks_of (p.seen c.visit.new.spawner)) in
     let behind = λ (b : Bool) (n : History). account_side n (told_size (d.seen new) c.drain-last.new.engine) (d.faults new) (told_time b (d.moment new)) (k.asked c.drain-last.new.clock) (tasks_of (p.seen c.drain-last.new.spawner)) in
     let t = at_setting k.gives p.gives base (λ (b : Bool) (w : Working). Ended d.seen d.may_leave d.moment d.left_since b w most_turns mid new c.drain-last.new.engine c.drain-last.result base v.0 (at b) (behind b))
     knows (is_some (d.seen mid)) (k.rule c.args.clock.now) (k.rule c.visit.new.clock) (p.rule c.args.spawner.now) (p.rule c.visit.new.spawner) c.args.login.now c.visit.new.runner.login c.args.runner.now.slots c.visit.new.runner.slots
-    c.args.engine.now.log.limit c.visit.new.engine.log.limit told c.visit.ensures.rule.0 c.visit.ensures.rule.1 (c.visit.ensures.same.0 ∙ c.requires.login) c.visit.ensures.same.1 (c.in-Had.ensures.goes_on.stays.limit is_open)
+    c.args.engine.now.log.limit c.visit.new.engine.log.limit told c.visit.ensures.keeps.rule.0 c.visit.ensures.keeps.rule.1 (c.visit.ensures.keeps.same.0 ∙ c.requires.work.same_login) c.visit.ensures.keeps.same.1 (c.in-Had.ensures.keeps.goes_on.stays.limit is_open)
     (c.drain-last.ensures.takes base v.0 (v.2.over is_open)) in
     let moves : MovesOn d.seen d.moment d.left_since mid new c.drain-last.new.engine base v.0 t.0 = record { over = t.2; front = t.3; any_moment = λ is. t.5 (sym told ∙ is) } in
     let s = setting false knows (k.gives (k.rule c.args.clock.now)) (p.gives (p.rule c.args.spawner.now)) c.args.login.now c.args.runner.now.slots c.args.engine.now.log.limit base in
@@ -85,9 +104,9 @@ returns-in-Had-clause-faults g c =
     let none = sym c.end_breaks.ensures ∙ c.in_default.is in
     let no = no_break c.in-Had.end none in
     let is_open = c.in-Had.ensures.live no.0 no.1 in
-    let o = some_over _ _ is_open c.in-Had.ensures.goes_on.serves in
+    let o = some_over _ _ is_open c.in-Had.ensures.keeps.goes_on.serves in
     let t = c.drain-last.ensures.takes o.0 o.1 o.2 in
-    let disk = c.in-Had.ensures.goes_on.stays.faults in
+    let disk = c.in-Had.ensures.keeps.goes_on.stays.faults in
     let spawn = c.in-Had.ensures.spawn_faults in
     subst (λ (r : Happened). EventFaults r (d.faults c.args.disk.now) (g.P.Spawner.seen c.args.spawner.now).faults (d.faults c.drain-last.new.disk) (g.P.Spawner.seen c.drain-last.new.spawner).faults) (sym c.happened_by.ensures)
     (drained_faults _ _ c.drain-last.result _ _ _ _ (λ is. (let rose = c.drain-last.ensures.disk is in omega (arith, disk, rose))) (λ is. (let rose = fault_by _ _ _ _ _ is t.1 in omega (arith, spawn, rose))))
@@ -97,7 +116,7 @@ returns-in-Had-clause-spawn_faults g c =
     let none = sym c.end_breaks.ensures ∙ c.in_default.is in
     let no = no_break c.in-Had.end none in
     let is_open = c.in-Had.ensures.live no.0 no.1 in
-    let o = some_over _ _ is_open c.in-Had.ensures.goes_on.serves in
+    let o = some_over _ _ is_open c.in-Had.ensures.keeps.goes_on.serves in
     let t = c.drain-last.ensures.takes o.0 o.1 o.2 in
     let counts = drained_counts _ _ _ _ _ t.1 in
     let spawn = c.in-Had.ensures.spawn_faults in
@@ -117,13 +136,13 @@ returns-in-Woke-clause-happens g c base h over =
     let knows = is_some (d.seen old) in
     let v = c.in-Woke.ensures.visit base h over in
     let is_open = c.in-Woke.ensures.live (none-some _) (none-some _) in
-    let told = c.in-Woke.ensures.goes_on.stays.told is_open in
+    let told = c.in-Woke.ensures.keeps.goes_on.stays.told is_open in
     let before = account_side h (told_size (d.seen old) c.args.engine.now) (d.faults old) (told_time knows (d.moment old)) (k.asked c.args.clock.now) (tasks_of (p.seen c.args.spawner.now)) in
     let at = λ (b : Bool). account_side v.0 (told_size (d.seen mid) c.visit.new.engine) (d.faults mid) (told_time b (d.moment mid)) (k.asked c.visit.new.clock) (tasks_of (p.seen c.visit.new.spawner)) in
     let behind = λ (b : Bool) (n : History). account_side n (told_size (d.seen new) c.drain-last-in-Woke.new.engine) (d.faults new) (told_time b (d.moment new)) (k.asked c.drain-last-in-Woke.new.clock) (tasks_of (p.seen c.drain-last-in-Woke.new.spawner)) in
     let t = at_setting k.gives p.gives base (λ (b : Bool) (w : Working). Ended d.seen d.may_leave d.moment d.left_since b w most_turns mid new c.drain-last-in-Woke.new.engine c.drain-last-in-Woke.result base v.0 (at b) (behind b))
     knows (is_some (d.seen mid)) (k.rule c.args.clock.now) (k.rule c.visit.new.clock) (p.rule c.args.spawner.now) (p.rule c.visit.new.spawner) c.args.login.now c.visit.new.runner.login c.args.runner.now.slots c.visit.new.runner.slots
-    c.args.engine.now.log.limit c.visit.new.engine.log.limit told c.visit.ensures.rule.0 c.visit.ensures.rule.1 (c.visit.ensures.same.0 ∙ c.requires.login) c.visit.ensures.same.1 (c.in-Woke.ensures.goes_on.stays.limit is_open)
+    c.args.engine.now.log.limit c.visit.new.engine.log.limit told c.visit.ensures.keeps.rule.0 c.visit.ensures.keeps.rule.1 (c.visit.ensures.keeps.same.0 ∙ c.requires.work.same_login) c.visit.ensures.keeps.same.1 (c.in-Woke.ensures.keeps.goes_on.stays.limit is_open)
     (c.drain-last-in-Woke.ensures.takes base v.0 (v.2.over is_open)) in
     let moves : MovesOn d.seen d.moment d.left_since mid new c.drain-last-in-Woke.new.engine base v.0 t.0 = record { over = t.2; front = t.3; any_moment = λ is. t.5 (sym told ∙ is) } in
     let s = setting false knows (k.gives (k.rule c.args.clock.now)) (p.gives (p.rule c.args.spawner.now)) c.args.login.now c.args.runner.now.slots c.args.engine.now.log.limit base in
@@ -140,9 +159,9 @@ pub returns-in-Woke-clause-faults : goal.returns-in-Woke-clause-faults
 returns-in-Woke-clause-faults g c =
     let d = g.D.Disk in
     let is_open = c.in-Woke.ensures.live (none-some _) (none-some _) in
-    let o = some_over _ _ is_open c.in-Woke.ensures.goes_on.serves in
+    let o = some_over _ _ is_open c.in-Woke.ensures.keeps.goes_on.serves in
     let t = c.drain-last-in-Woke.ensures.takes o.0 o.1 o.2 in
-    let disk = c.in-Woke.ensures.goes_on.stays.faults in
+    let disk = c.in-Woke.ensures.keeps.goes_on.stays.faults in
     let spawn = c.in-Woke.ensures.spawn_faults in
     subst (λ (r : Happened). EventFaults r (d.faults c.args.disk.now) (g.P.Spawner.seen c.args.spawner.now).faults (d.faults c.drain-last-in-Woke.new.disk) (g.P.Spawner.seen c.drain-last-in-Woke.new.spawner).faults) (sym c.happened_by-in-Woke.ensures)
     (drained_faults _ _ c.drain-last-in-Woke.result _ _ _ _ (λ is. (let rose = c.drain-last-in-Woke.ensures.disk is in omega (arith, disk, rose))) (λ is. (let rose = fault_by _ _ _ _ _ is t.1 in omega (arith, spawn, rose))))
@@ -150,9 +169,42 @@ returns-in-Woke-clause-faults g c =
 pub returns-in-Woke-clause-spawn_faults : goal.returns-in-Woke-clause-spawn_faults
 returns-in-Woke-clause-spawn_faults g c =
     let is_open = c.in-Woke.ensures.live (none-some _) (none-some _) in
-    let o = some_over _ _ is_open c.in-Woke.ensures.goes_on.serves in
+    let o = some_over _ _ is_open c.in-Woke.ensures.keeps.goes_on.serves in
     let t = c.drain-last-in-Woke.ensures.takes o.0 o.1 o.2 in
     let counts = drained_counts _ _ _ _ _ t.1 in
     let spawn = c.in-Woke.ensures.spawn_faults in
     let more = counts.spawn in
     omega (arith, spawn, more)
+
+pub returns-in-Some-clause-keeps : goal.returns-in-Some-clause-keeps
+returns-in-Some-clause-keeps g c = c.visit.ensures.keeps
+
+pub returns-in-Had-clause-keeps : goal.returns-in-Had-clause-keeps
+returns-in-Had-clause-keeps g c =
+    let d = g.D.Disk in
+    let no = no_break c.in-Had.end (sym c.end_breaks.ensures ∙ c.in_default.is) in
+    let is_open = c.in-Had.ensures.live no.0 no.1 in
+    let v = c.visit.ensures.keeps in
+    let t = c.drain-last.ensures in
+    record {
+      at_work = t.at_work;
+      same = (t.same.1 ∙ v.same.0, t.same.0 ∙ v.same.1);
+      goes_on = goes_on_more d.seen d.may_leave d.faults c.args.disk.now c.visit.new.disk c.drain-last.new.disk c.args.engine.now c.visit.new.engine c.drain-last.new.engine is_open v.goes_on t.goes_on;
+      rule = (t.rule.1 ∙ v.rule.0, t.rule.0 ∙ v.rule.1);
+    }
+
+pub returns-in-Woke-clause-keeps : goal.returns-in-Woke-clause-keeps
+returns-in-Woke-clause-keeps g c =
+    let d = g.D.Disk in
+    let is_open = c.in-Woke.ensures.live (none-some _) (none-some _) in
+    let v = c.visit.ensures.keeps in
+    let t = c.drain-last-in-Woke.ensures in
+    record {
+      at_work = t.at_work;
+      same = (t.same.1 ∙ v.same.0, t.same.0 ∙ v.same.1);
+      goes_on = goes_on_more d.seen d.may_leave d.faults c.args.disk.now c.visit.new.disk c.drain-last-in-Woke.new.disk c.args.engine.now c.visit.new.engine c.drain-last-in-Woke.new.engine is_open v.goes_on t.goes_on;
+      rule = (t.rule.1 ∙ v.rule.0, t.rule.0 ∙ v.rule.1);
+    }
+
+pub returns-in-NoLink-clause-keeps : goal.returns-in-NoLink-clause-keeps
+returns-in-NoLink-clause-keeps g c = c.visit.ensures.keeps

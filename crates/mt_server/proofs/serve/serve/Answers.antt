@@ -1,5 +1,5 @@
 -- The links are served over the history at entry, or the store was not opened and the door stands as it was.
-use Rattle.std.proofs.Common.{Bool, false, refl, ap, ◌∙◌, arith}
+use Rattle.std.proofs.Common.{Bool, false, refl, ap, subst, ◌∙◌, arith}
 use Rattle.std.specs.Prelude.{Err, is_some}
 use Rattle.mt_disk.proofs.Moments.{leaves_now}
 use Rattle.mt_engine.specs.Current.{IsBetween, told_size}
@@ -10,16 +10,37 @@ use Rattle.mt_connection.specs.Sides.{side_of}
 use Rattle.mt_connection.specs.Transcript.{Setting, setting}
 use Rattle.mt_server.specs.Events.{door_side, size_of}
 use Rattle.mt_server.specs.Guarantees.{IsOpened, IsStopped, shop}
+use Rattle.mt_server.specs.Statuses.{IsBegun}
 use Rattle.mt_server.specs.Visiting.{ServesLinks}
+use Rattle.mt_server.specs.declared.status.Status.{Status}
 use Rattle.mt_server.specs.declared.status.Status.TheVariants as status
 use Rattle.mt_server.proofs.Connecting.{is_stood, leaves, size_told, sized}
 use Rattle.mt_server.proofs.Following.{passed_nothing}
 use Rattle.mt_server.proofs.Opened.{crash_from_entry, kept_size, opening_holds, over_opened, some_files}
-use Rattle.mt_server.proofs.Overs.{in_setting, timed}
+use Rattle.mt_server.proofs.Overs.{at_work_idle, in_setting, timed}
 use Rattle.mt_server.proofs.Serves.{has_served, not_begun, said_why, unopened_serve, unserved_serve}
 use Rattle.mt_server.proofs.Settling.{ready_begun, ready_open, ready_refused, ready_unopened}
 use Rattle.mt_server.proofs.Unopened.{later_disk, later_spawner, unopened_spawner}
 use Rattle.mt_server.proofs.serve.serve.Goals as goal
+
+pub open_store-requires-clause-rest : goal.open_store-requires-clause-rest
+open_store-requires-clause-rest g c = c.requires.begin.outside.rest
+
+pub open_store-requires-clause-fit : goal.open_store-requires-clause-fit
+open_store-requires-clause-fit g c = c.requires.begin.outside.fit
+
+pub serve_links-end-requires-clause-work : goal.serve_links-end-requires-clause-work
+serve_links-end-requires-clause-work g c =
+    let p = g.P.Spawner in
+    let spawner = c.args.spawner.now in
+    record {
+      ready = c.in-Ok.ensures.ready;
+      at_work = at_work_idle (p.may (p.rule spawner)) (p.gives (p.rule spawner)) (p.seen spawner) (p.held spawner) c.args.runner.now (g.D.Disk.seen c.open_store.new.disk) c.in-Ok.engine c.requires.begin.nothing_kept c.requires.begin.outside.idle c.requires.begin.outside.free;
+      same_login = c.requires.begin.same_login;
+    }
+
+pub stop-requires : goal.stop-requires
+stop-requires g c = record { paired = c.serve_links-end.ensures.keeps.at_work.paired }
 
 pub returns-in-Ok-clause-served : goal.returns-in-Ok-clause-served
 returns-in-Ok-clause-served g c base h has =
@@ -69,24 +90,42 @@ returns-in-Ok-clause-served g c base h has =
       has_served side link.Both.stays s (λ h used asked t may. may) c.args.connections _ (timed knows before) here.events (timed knows behind) w.result _ opened here.led stopped here.ends here.links
           (λ knows. let there = some_files (d.seen old) knows in is_stood base h there.0 (has there.0 there.1))
           here.durable
-          (λ knows. sized (status.Serve w.result) w.new.engine.log.closed _ _ tt w.ensures.live (size_told d.seen d.may_leave new w.new.engine w.ensures.goes_on.stands))
+          (λ knows. sized (status.Serve w.result) w.new.engine.log.closed _ _ tt w.ensures.live (size_told d.seen d.may_leave new w.new.engine w.ensures.keeps.goes_on.stands))
           (leaves d.moment d.left_since old new (IsBetween base h x.0) _ (λ knows. let there = some_files (d.seen old) knows in crash_from_entry d.may_leave d.moment d.left_since old mid new there.0 base h x.0 (has there.0 there.1) (opening there.0 there.1) (x.2.any_moment (tells ∙ knows)) (λ c has. between_first base h x.0 c x.2.front has))),
     )
 
-pub returns-in-Ok-clause-by_disk : goal.returns-in-Ok-clause-by_disk
-returns-in-Ok-clause-by_disk g c = later_disk (status.Serve c.serve_links-end.result) _ _ _ c.open_store.ensures.faults c.serve_links-end.ensures.by_disk
+pub returns-in-Ok-clause-of_serve : goal.returns-in-Ok-clause-of_serve
+returns-in-Ok-clause-of_serve g c = (tt, (λ begun. c.in-Ok.ensures.opened.0))
 
-pub returns-in-Ok-clause-by_spawner : goal.returns-in-Ok-clause-by_spawner
-returns-in-Ok-clause-by_spawner g c = later_spawner (status.Serve c.serve_links-end.result) _ _ _ c.serve_links-end.ensures.by_spawner c.stop.ensures.faults
+pub returns-in-Ok-clause-store : goal.returns-in-Ok-clause-store
+returns-in-Ok-clause-store g c = record {
+  begun = λ begun. c.in-Ok.ensures.opened.1;
+  untouched = λ is. absurd is;
+  unopened = λ is. absurd is;
+  silent = λ is. absurd is;
+  refused = λ why is. absurd (subst (λ (s : Status). IsBegun s) is tt);
+}
 
-pub returns-in-Ok-clause-begun : goal.returns-in-Ok-clause-begun
-returns-in-Ok-clause-begun g c begun = c.in-Ok.ensures.opened
+pub returns-in-Ok-clause-cause : goal.returns-in-Ok-clause-cause
+returns-in-Ok-clause-cause g c =
+    let w = c.serve_links-end in
+    record {
+      by_disk = later_disk (status.Serve w.result) _ _ _ c.open_store.ensures.faults w.ensures.cause.by_disk;
+      by_spawner = later_spawner (status.Serve w.result) _ _ _ w.ensures.cause.by_spawner c.stop.ensures.faults;
+      by_door = w.ensures.cause.by_door;
+    }
 
-pub returns-in-Ok-clause-rest : goal.returns-in-Ok-clause-rest
-returns-in-Ok-clause-rest g c =
+pub returns-in-Ok-clause-outside : goal.returns-in-Ok-clause-outside
+returns-in-Ok-clause-outside g c =
     let d = g.D.Disk in
     let w = c.serve_links-end in
-    ready_begun (status.Serve w.result) w.new.engine.log.closed _ _ tt w.ensures.live (λ is_open. ready_open d.seen d.may_leave w.new.disk w.new.engine.log w.ensures.goes_on.stands is_open)
+    let k = w.ensures.keeps in
+    record {
+      no_child_left = (c.stop.ensures.none, c.stop.ensures.held ∙ k.at_work.free);
+      rest = ready_begun (status.Serve w.result) w.new.engine.log.closed _ _ tt w.ensures.live (λ is_open. ready_open d.seen d.may_leave w.new.disk w.new.engine.log k.goes_on.stands is_open);
+      stays = c.open_store.ensures.stays;
+      rule = (k.rule.0, c.stop.ensures.rule ∙ k.rule.1);
+    }
 
 pub returns-in-Err-clause-served : goal.returns-in-Err-clause-served
 returns-in-Err-clause-served g c base h has =
@@ -102,32 +141,33 @@ returns-in-Err-clause-served g c base h has =
     )
 
 pub returns-in-Err-clause-of_serve : goal.returns-in-Err-clause-of_serve
-returns-in-Err-clause-of_serve g c = (unopened_serve c.in-Err.status _ _ _ _ _ _ c.in-Err.ensures.unopened.1).0
+returns-in-Err-clause-of_serve g c =
+    let closed = c.in-Err.ensures.unopened in
+    ((unopened_serve c.in-Err.status _ _ _ _ _ _ closed.1).0, (λ begun. absurd (not_begun c.in-Err.status closed.0 begun)))
 
-pub returns-in-Err-clause-begun : goal.returns-in-Err-clause-begun
-returns-in-Err-clause-begun g c begun = absurd (not_begun c.in-Err.status c.in-Err.ensures.unopened.0 begun)
+pub returns-in-Err-clause-store : goal.returns-in-Err-clause-store
+returns-in-Err-clause-store g c = record {
+  begun = λ begun. absurd (not_begun c.in-Err.status c.in-Err.ensures.unopened.0 begun);
+  untouched = λ is. (refl, refl);
+  unopened = λ is. c.open_store.ensures.any_moment;
+  silent = c.in-Err.ensures.silent;
+  refused = λ why is. (said_why c.in-Err.status _ _ _ _ _ _ c.in-Err.ensures.unopened.1 why is, c.open_store.ensures.refused why (c.in-Err.is ∙ ap (λ e. Err e) is));
+}
 
-pub returns-in-Err-clause-unopened : goal.returns-in-Err-clause-unopened
-returns-in-Err-clause-unopened g c is = (refl, refl, c.open_store.ensures.any_moment)
+pub returns-in-Err-clause-cause : goal.returns-in-Err-clause-cause
+returns-in-Err-clause-cause g c =
+    let closed = c.in-Err.ensures.unopened in
+    let says = unopened_serve c.in-Err.status _ _ _ _ _ _ closed.1 in
+    record { by_disk = says.1; by_spawner = unopened_spawner c.in-Err.status _ _ closed.0; by_door = says.2 _ _ _ _ _ }
 
-pub returns-in-Err-clause-silent : goal.returns-in-Err-clause-silent
-returns-in-Err-clause-silent g c = c.in-Err.ensures.silent
-
-pub returns-in-Err-clause-refused : goal.returns-in-Err-clause-refused
-returns-in-Err-clause-refused g c why is = (said_why c.in-Err.status _ _ _ _ _ _ c.in-Err.ensures.unopened.1 why is, c.open_store.ensures.refused why (c.in-Err.is ∙ ap (λ e. Err e) is))
-
-pub returns-in-Err-clause-by_disk : goal.returns-in-Err-clause-by_disk
-returns-in-Err-clause-by_disk g c = (unopened_serve c.in-Err.status _ _ _ _ _ _ c.in-Err.ensures.unopened.1).1
-
-pub returns-in-Err-clause-by_spawner : goal.returns-in-Err-clause-by_spawner
-returns-in-Err-clause-by_spawner g c = unopened_spawner c.in-Err.status _ _ c.in-Err.ensures.unopened.0
-
-pub returns-in-Err-clause-by_door : goal.returns-in-Err-clause-by_door
-returns-in-Err-clause-by_door g c = (unopened_serve c.in-Err.status _ _ _ _ _ _ c.in-Err.ensures.unopened.1).2 _ _ _ _ _
-
-pub returns-in-Err-clause-rest : goal.returns-in-Err-clause-rest
-returns-in-Err-clause-rest g c =
+pub returns-in-Err-clause-outside : goal.returns-in-Err-clause-outside
+returns-in-Err-clause-outside g c =
     let d = g.D.Disk in
     let new = c.open_store.new.disk in
-    ready_unopened c.in-Err.status _ _ _ _ _ _ _ _ c.in-Err.ensures.unopened.1
-    (λ why is knows. ready_refused d.seen d.may_leave d.moment d.left_since c.args.disk.now new why knows (c.open_store.ensures.refused why (c.in-Err.is ∙ ap (λ e. Err e) is)) c.open_store.ensures.any_moment (g.met.D.Disk.counts_now new) (g.met.D.Disk.seen_is_left new))
+    record {
+      no_child_left = (c.requires.begin.outside.idle, c.requires.begin.outside.free);
+      rest = ready_unopened c.in-Err.status _ _ _ _ _ _ _ _ c.in-Err.ensures.unopened.1
+          (λ why is knows. ready_refused d.seen d.may_leave d.moment d.left_since c.args.disk.now new why knows (c.open_store.ensures.refused why (c.in-Err.is ∙ ap (λ e. Err e) is)) c.open_store.ensures.any_moment (g.met.D.Disk.counts_now new) (g.met.D.Disk.seen_is_left new));
+      stays = c.open_store.ensures.stays;
+      rule = (refl, refl);
+    }

@@ -1,7 +1,7 @@
 -- The events so far, and then one more, or the end.
 use Rattle.std.proofs.Common.{◌≡◌, ◌<◌, Bool, false, ◌∷◌, [], ◌++◌, refl, sym, subst, ◌∙◌, arith}
 use Rattle.std.specs.Prelude.{is_some}
-use Rattle.std.proofs.lemmas.Bool.{ltb-true}
+use Rattle.std.proofs.lemmas.Bool.{ltb-false, ltb-true}
 use Rattle.mt_engine.specs.Current.{told_size}
 use Rattle.mt_runner.specs.Account.{account_side, tasks_of, told_time}
 use Rattle.mt_runner.proofs.Drains.{goes_on_more}
@@ -25,7 +25,7 @@ use Rattle.mt_server.proofs.serve.serve_links.Goals as goal
 pub events-init : goal.events-init
 events-init g c =
     let d = g.D.Disk in
-    let ready = c.requires.ready in
+    let ready = c.requires.work.ready in
     record {
       so_far = λ base h over. (
         h,
@@ -35,13 +35,13 @@ events-init g c =
         moves_none d.seen d.may_leave d.moment d.left_since c.args.disk.now c.args.engine.now base h (g.met.D.Disk.only_now c.args.disk.now) ready.stands ready.is_open over,
       );
       ready = ready;
-      at_work = c.requires.at_work;
+      at_work = c.requires.work.at_work;
       told = refl;
       limit = refl;
       version = refl;
       rule = refl;
       children = refl;
-      login = c.requires.login;
+      login = c.requires.work.same_login;
       slots = refl;
       counted = omega arith;
       spawned = omega arith;
@@ -50,26 +50,28 @@ events-init g c =
       taken = omega arith;
       over = omega arith;
       failed = omega arith;
-      back = c.requires.door;
+      back = c.requires.door.back;
     }
 
-pub event-requires-clause-ready : goal.event-requires-clause-ready
-event-requires-clause-ready g c = c.events.invariant.ready
-
-pub event-requires-clause-at_work : goal.event-requires-clause-at_work
-event-requires-clause-at_work g c = c.events.invariant.at_work
-
-pub event-requires-clause-login : goal.event-requires-clause-login
-event-requires-clause-login g c = c.events.invariant.login
+pub event-requires-clause-work : goal.event-requires-clause-work
+event-requires-clause-work g c =
+    let i = c.events.invariant in
+    record { ready = i.ready; at_work = i.at_work; same_login = i.login }
 
 pub event-requires-clause-back : goal.event-requires-clause-back
 event-requires-clause-back g c = c.events.invariant.back
+
+pub event-requires-clause-some : goal.event-requires-clause-some
+event-requires-clause-some g c stale =
+    let i = c.events.invariant in
+    let all = ltb-false c.events.taken c.args.connections stale in
+    omega (arith, all, i.left, i.taken, i.over, i.back, c.requires.door.back)
 
 pub events-preserved : goal.events-preserved
 events-preserved g c =
     let before = c.events.invariant in
     let w = c.in-Went in
-    let went = c.event.ensures.goes_on in
+    let went = c.event.ensures.keeps.goes_on in
     let is_open = w.ensures.live in
     let counts = w.ensures.counts in
     let taken_is = c.add-taken.ensures in
@@ -108,14 +110,14 @@ events-preserved g c =
             moves,
           );
       ready = record { stands = went.stands; is_open = is_open; version = went.stays.version is_open ∙ before.ready.version; serves = went.serves };
-      at_work = c.event.ensures.at_work;
+      at_work = c.event.ensures.keeps.at_work;
       told = went.stays.told is_open ∙ before.told;
       limit = went.stays.limit is_open ∙ before.limit;
       version = went.stays.version is_open ∙ before.version;
-      rule = c.event.ensures.rule.0 ∙ before.rule;
-      children = c.event.ensures.rule.1 ∙ before.children;
-      login = c.event.ensures.same.0 ∙ before.login;
-      slots = c.event.ensures.same.1 ∙ before.slots;
+      rule = c.event.ensures.keeps.rule.0 ∙ before.rule;
+      children = c.event.ensures.keeps.rule.1 ∙ before.children;
+      login = c.event.ensures.keeps.same.0 ∙ before.login;
+      slots = c.event.ensures.keeps.same.1 ∙ before.slots;
       counted = let more = went.stays.faults in omega (arith, before.counted, more);
       spawned = let more = c.event.ensures.spawn_faults in omega (arith, before.spawned, more);
       few = within w.first _ c.events.taken _ c.args.connections before.few taken_is w.ensures.asked_for (ltb-true c.events.taken c.args.connections);
@@ -161,52 +163,48 @@ returns-then-over-connections-clause-served g c base h over =
     let few = within c.in-Went.first _ c.events.taken _ c.args.connections c.events.invariant.few c.add-taken.ensures c.in-Went.ensures.asked_for (ltb-true c.events.taken c.args.connections) in
     let went_counts = c.in-Went.ensures.counts in
     let taken_all : c.add-taken.result ≡ c.args.connections =
-    omega (arith, few, c.events.invariant.taken, c.events.invariant.over, went_counts.0, went_counts.1, c.add-taken.ensures, c.add-over.ensures, c.event.ensures.back, c.requires.door, c.requires.none_kept) in
+    omega (arith, few, c.events.invariant.taken, c.events.invariant.over, went_counts.0, went_counts.1, c.add-taken.ensures, c.add-over.ensures, c.event.ensures.back, c.requires.door.back, c.requires.door.none_kept) in
     let ends = served_ends c.args.connections all c.in-Went.last door door2 (going.none, counted.firsts_is ∙ taken_all, counted.lasts_is ∙ over_all) (last_is so_far.1 happens.0 ∙ happens.1) happens.3 in (
       turn.0,
       subst (λ (end : ServeEnd). ServesLinks side link.Both.stays s (d.left_since new) (d.may_leave new) c.args.connections (shop first door) end (shop (timed knows behind) door2)) (sym c.served_by.ensures)
           (serves_open side link.Both.stays s (d.left_since new) (d.may_leave new) (shop first door) (shop (timed knows behind) door2) all c.args.connections _ going ends (no_disk c.in-Went.last)
-          (λ is. images_open d.seen d.may_leave new e.new.engine base turn.0 e.ensures.goes_on.stands is_open (moves.over is_open) (e.ensures.goes_on.stays.told is_open ∙ (before.told ∙ is)))),
+          (λ is. images_open d.seen d.may_leave new e.new.engine base turn.0 e.ensures.keeps.goes_on.stands is_open (moves.over is_open) (e.ensures.keeps.goes_on.stays.told is_open ∙ (before.told ∙ is)))),
       moves,
     )
 
 pub returns-then-over-connections-clause-live : goal.returns-then-over-connections-clause-live
 returns-then-over-connections-clause-live g c = subst (λ (end : ServeEnd). StaysOpen (status.Serve end) c.event.new.engine.log.closed) (sym c.served_by.ensures) (served_open_by c.in-Went.last _ c.in-Went.ensures.live)
 
-pub returns-then-over-connections-clause-by_disk : goal.returns-then-over-connections-clause-by_disk
-returns-then-over-connections-clause-by_disk g c = subst (λ (end : ServeEnd). ByDisk (status.Serve end) (g.D.Disk.faults c.args.disk.now) (g.D.Disk.faults c.event.new.disk)) (sym c.served_by.ensures) (served_disk_by c.in-Went.last _ _)
-
-pub returns-then-over-connections-clause-by_spawner : goal.returns-then-over-connections-clause-by_spawner
-returns-then-over-connections-clause-by_spawner g c =
-    subst (λ (end : ServeEnd). BySpawner (status.Serve end) (g.P.Spawner.seen c.args.spawner.now).faults (g.P.Spawner.seen c.event.new.spawner).faults) (sym c.served_by.ensures)
-    (served_spawn_by c.in-Went.first c.in-Went.one c.in-Went.last _ _ _ _ _ c.events.invariant.spawned c.in-Went.ensures.faults)
-
-pub returns-then-over-connections-clause-by_door : goal.returns-then-over-connections-clause-by_door
-returns-then-over-connections-clause-by_door g c =
+pub returns-then-over-connections-clause-cause : goal.returns-then-over-connections-clause-cause
+returns-then-over-connections-clause-cause g c =
     let before = c.events.invariant in
     let counts = c.in-Went.ensures.counts in
     let taken_is = c.add-taken.ensures in
-    let few = within c.in-Went.first _ c.events.taken _ c.args.connections c.events.invariant.few c.add-taken.ensures c.in-Went.ensures.asked_for (ltb-true c.events.taken c.args.connections) in
-    let went_counts = c.in-Went.ensures.counts in
+    let few = within c.in-Went.first _ c.events.taken _ c.args.connections before.few taken_is c.in-Went.ensures.asked_for (ltb-true c.events.taken c.args.connections) in
     let taken_all : c.add-taken.result ≡ c.args.connections =
-    omega (arith, few, c.events.invariant.taken, c.events.invariant.over, went_counts.0, went_counts.1, c.add-taken.ensures, c.add-over.ensures, c.event.ensures.back, c.requires.door, c.requires.none_kept) in
-    subst (λ (end : ServeEnd). ByDoor (status.Serve end) c.args.connections (g.W.Door.taken c.args.door.now) (g.W.Door.door_faults c.args.door.now) (g.W.Door.taken c.event.new.door) (g.W.Door.door_faults c.event.new.door)) (sym c.served_by.ensures)
-    (served_door_by c.in-Went.last _ _ _ _ _ (omega (arith, before.taken, counts.0, taken_is, taken_all)))
+    omega (arith, few, before.taken, before.over, counts.0, counts.1, c.add-taken.ensures, c.add-over.ensures, c.event.ensures.back, c.requires.door.back, c.requires.door.none_kept) in
+    record {
+      by_disk = subst (λ (end : ServeEnd). ByDisk (status.Serve end) (g.D.Disk.faults c.args.disk.now) (g.D.Disk.faults c.event.new.disk)) (sym c.served_by.ensures) (served_disk_by c.in-Went.last _ _);
+      by_spawner = subst (λ (end : ServeEnd). BySpawner (status.Serve end) (g.P.Spawner.seen c.args.spawner.now).faults (g.P.Spawner.seen c.event.new.spawner).faults) (sym c.served_by.ensures)
+          (served_spawn_by c.in-Went.first c.in-Went.one c.in-Went.last _ _ _ _ _ before.spawned c.in-Went.ensures.faults);
+      by_door = subst (λ (end : ServeEnd). ByDoor (status.Serve end) c.args.connections (g.W.Door.taken c.args.door.now) (g.W.Door.door_faults c.args.door.now) (g.W.Door.taken c.event.new.door) (g.W.Door.door_faults c.event.new.door)) (sym c.served_by.ensures)
+          (served_door_by c.in-Went.last _ _ _ _ _ (omega (arith, before.taken, counts.0, taken_is, taken_all)));
+    }
 
-pub returns-then-over-connections-clause-same : goal.returns-then-over-connections-clause-same
-returns-then-over-connections-clause-same g c = (c.event.ensures.same.0 ∙ (c.events.invariant.login ∙ sym c.requires.login), c.event.ensures.same.1 ∙ c.events.invariant.slots)
-
-pub returns-then-over-connections-clause-goes_on : goal.returns-then-over-connections-clause-goes_on
-returns-then-over-connections-clause-goes_on g c =
+pub returns-then-over-connections-clause-keeps : goal.returns-then-over-connections-clause-keeps
+returns-then-over-connections-clause-keeps g c =
     let d = g.D.Disk in
     let before = c.events.invariant in
-    goes_on_more d.seen d.may_leave d.faults c.args.disk.now c.events.disk c.event.new.disk c.args.engine.now c.events.engine c.event.new.engine before.told before.version before.limit before.counted c.event.ensures.goes_on
+    let k = c.event.ensures.keeps in
+    record {
+      at_work = k.at_work;
+      same = (k.same.0 ∙ (before.login ∙ sym c.requires.work.same_login), k.same.1 ∙ before.slots);
+      goes_on = goes_on_more d.seen d.may_leave d.faults c.args.disk.now c.events.disk c.event.new.disk c.args.engine.now c.events.engine c.event.new.engine before.told before.version before.limit before.counted k.goes_on;
+      rule = (k.rule.0 ∙ before.rule, k.rule.1 ∙ before.children);
+    }
 
 pub returns-then-over-connections-clause-spawn_faults : goal.returns-then-over-connections-clause-spawn_faults
 returns-then-over-connections-clause-spawn_faults g c = let more = c.event.ensures.spawn_faults in let was = c.events.invariant.spawned in omega (arith, more, was)
-
-pub returns-then-over-connections-clause-rule : goal.returns-then-over-connections-clause-rule
-returns-then-over-connections-clause-rule g c = (c.event.ensures.rule.0 ∙ c.events.invariant.rule, c.event.ensures.rule.1 ∙ c.events.invariant.children)
 
 pub returns-in-Broke-clause-served : goal.returns-in-Broke-clause-served
 returns-in-Broke-clause-served g c base h over =
@@ -243,37 +241,32 @@ returns-in-Broke-clause-served g c base h over =
 pub returns-in-Broke-clause-live : goal.returns-in-Broke-clause-live
 returns-in-Broke-clause-live g c = broke_open c.in-Broke.end _ c.in-Broke.ensures.live
 
-pub returns-in-Broke-clause-by_disk : goal.returns-in-Broke-clause-by_disk
-returns-in-Broke-clause-by_disk g c = broke_disk c.in-Broke.end _ _ _ _ _ c.events.invariant.counted c.in-Broke.ensures.faults
-
-pub returns-in-Broke-clause-by_door : goal.returns-in-Broke-clause-by_door
-returns-in-Broke-clause-by_door g c =
+pub returns-in-Broke-clause-cause : goal.returns-in-Broke-clause-cause
+returns-in-Broke-clause-cause g c =
     let before = c.events.invariant in
     let o = some_over _ _ before.ready.is_open before.ready.serves in
     let turn = c.in-Broke.ensures.happens o.0 o.1 o.2 in
-    broke_door c.in-Broke.end (break_is turn.1.0 c.in-Broke.end turn.1.1) _ _ _ _ _
+    let breaks = break_is turn.1.0 c.in-Broke.end turn.1.1 in
+    record {
+      by_disk = broke_disk c.in-Broke.end _ _ _ _ _ before.counted c.in-Broke.ensures.faults;
+      by_spawner = broke_spawner c.in-Broke.end breaks _ _;
+      by_door = broke_door c.in-Broke.end breaks _ _ _ _ _;
+    }
 
-pub returns-in-Broke-clause-by_spawner : goal.returns-in-Broke-clause-by_spawner
-returns-in-Broke-clause-by_spawner g c =
-    let before = c.events.invariant in
-    let o = some_over _ _ before.ready.is_open before.ready.serves in
-    let turn = c.in-Broke.ensures.happens o.0 o.1 o.2 in
-    broke_spawner c.in-Broke.end (break_is turn.1.0 c.in-Broke.end turn.1.1) _ _
-
-pub returns-in-Broke-clause-same : goal.returns-in-Broke-clause-same
-returns-in-Broke-clause-same g c = (c.event.ensures.same.0 ∙ (c.events.invariant.login ∙ sym c.requires.login), c.event.ensures.same.1 ∙ c.events.invariant.slots)
-
-pub returns-in-Broke-clause-goes_on : goal.returns-in-Broke-clause-goes_on
-returns-in-Broke-clause-goes_on g c =
+pub returns-in-Broke-clause-keeps : goal.returns-in-Broke-clause-keeps
+returns-in-Broke-clause-keeps g c =
     let d = g.D.Disk in
     let before = c.events.invariant in
-    goes_on_more d.seen d.may_leave d.faults c.args.disk.now c.events.disk c.event.new.disk c.args.engine.now c.events.engine c.event.new.engine before.told before.version before.limit before.counted c.event.ensures.goes_on
+    let k = c.event.ensures.keeps in
+    record {
+      at_work = k.at_work;
+      same = (k.same.0 ∙ (before.login ∙ sym c.requires.work.same_login), k.same.1 ∙ before.slots);
+      goes_on = goes_on_more d.seen d.may_leave d.faults c.args.disk.now c.events.disk c.event.new.disk c.args.engine.now c.events.engine c.event.new.engine before.told before.version before.limit before.counted k.goes_on;
+      rule = (k.rule.0 ∙ before.rule, k.rule.1 ∙ before.children);
+    }
 
 pub returns-in-Broke-clause-spawn_faults : goal.returns-in-Broke-clause-spawn_faults
 returns-in-Broke-clause-spawn_faults g c = let more = c.event.ensures.spawn_faults in let was = c.events.invariant.spawned in omega (arith, more, was)
-
-pub returns-in-Broke-clause-rule : goal.returns-in-Broke-clause-rule
-returns-in-Broke-clause-rule g c = (c.event.ensures.rule.0 ∙ c.events.invariant.rule, c.event.ensures.rule.1 ∙ c.events.invariant.children)
 
 pub returns-in-NoLink-clause-served : goal.returns-in-NoLink-clause-served
 returns-in-NoLink-clause-served g c base h over =
@@ -309,31 +302,31 @@ returns-in-NoLink-clause-served g c base h over =
       turn.0,
       serves_open side link.Both.stays s (d.left_since new) (d.may_leave new) (shop first door) (shop (timed knows behind) door2) so_far.1 c.args.connections _ going
           (so_far.2.none, subst (λ n. n < c.args.connections) (sym so_far.3.firsts_is) few, omega (arith, before.failed, rose)) no_link_no_disk
-          (λ is. images_open d.seen d.may_leave new e.new.engine base turn.0 e.ensures.goes_on.stands is_open (moves.over is_open) (e.ensures.goes_on.stays.told is_open ∙ (before.told ∙ is))),
+          (λ is. images_open d.seen d.may_leave new e.new.engine base turn.0 e.ensures.keeps.goes_on.stands is_open (moves.over is_open) (e.ensures.keeps.goes_on.stays.told is_open ∙ (before.told ∙ is))),
       moves,
     )
 
-pub returns-in-NoLink-clause-by_door : goal.returns-in-NoLink-clause-by_door
-returns-in-NoLink-clause-by_door g c =
+pub returns-in-NoLink-clause-cause : goal.returns-in-NoLink-clause-cause
+returns-in-NoLink-clause-cause g c =
     let before = c.events.invariant in
     let counts = c.in-NoLink.ensures.counts in
     let few = ltb-true c.events.taken c.args.connections c.in-NoLink.ensures.asked_for in
-    (omega (arith, before.taken, counts.0, few), omega (arith, before.failed, counts.1))
+    record { by_disk = tt; by_spawner = tt; by_door = (omega (arith, before.taken, counts.0, few), omega (arith, before.failed, counts.1)) }
 
-pub returns-in-NoLink-clause-same : goal.returns-in-NoLink-clause-same
-returns-in-NoLink-clause-same g c = (c.event.ensures.same.0 ∙ (c.events.invariant.login ∙ sym c.requires.login), c.event.ensures.same.1 ∙ c.events.invariant.slots)
-
-pub returns-in-NoLink-clause-goes_on : goal.returns-in-NoLink-clause-goes_on
-returns-in-NoLink-clause-goes_on g c =
+pub returns-in-NoLink-clause-keeps : goal.returns-in-NoLink-clause-keeps
+returns-in-NoLink-clause-keeps g c =
     let d = g.D.Disk in
     let before = c.events.invariant in
-    goes_on_more d.seen d.may_leave d.faults c.args.disk.now c.events.disk c.event.new.disk c.args.engine.now c.events.engine c.event.new.engine before.told before.version before.limit before.counted c.event.ensures.goes_on
+    let k = c.event.ensures.keeps in
+    record {
+      at_work = k.at_work;
+      same = (k.same.0 ∙ (before.login ∙ sym c.requires.work.same_login), k.same.1 ∙ before.slots);
+      goes_on = goes_on_more d.seen d.may_leave d.faults c.args.disk.now c.events.disk c.event.new.disk c.args.engine.now c.events.engine c.event.new.engine before.told before.version before.limit before.counted k.goes_on;
+      rule = (k.rule.0 ∙ before.rule, k.rule.1 ∙ before.children);
+    }
 
 pub returns-in-NoLink-clause-spawn_faults : goal.returns-in-NoLink-clause-spawn_faults
 returns-in-NoLink-clause-spawn_faults g c = let more = c.event.ensures.spawn_faults in let was = c.events.invariant.spawned in omega (arith, more, was)
-
-pub returns-in-NoLink-clause-rule : goal.returns-in-NoLink-clause-rule
-returns-in-NoLink-clause-rule g c = (c.event.ensures.rule.0 ∙ c.events.invariant.rule, c.event.ensures.rule.1 ∙ c.events.invariant.children)
 
 pub returns-clause-served : goal.returns-clause-served
 returns-clause-served g c base h over =
@@ -347,22 +340,21 @@ returns-clause-served g c base h over =
       so_far.4,
     )
 
-pub returns-clause-at_work : goal.returns-clause-at_work
-returns-clause-at_work g c = c.events.invariant.at_work
-
-pub returns-clause-same : goal.returns-clause-same
-returns-clause-same g c = (c.events.invariant.login ∙ sym c.requires.login, c.events.invariant.slots)
-
-pub returns-clause-goes_on : goal.returns-clause-goes_on
-returns-clause-goes_on g c =
+pub returns-clause-keeps : goal.returns-clause-keeps
+returns-clause-keeps g c =
     let before = c.events.invariant in
-    record { stays = record { told = λ is. before.told; version = λ is. before.version; limit = λ is. before.limit; faults = before.counted }; stands = before.ready.stands; serves = before.ready.serves }
+    record {
+      at_work = before.at_work;
+      same = (before.login ∙ sym c.requires.work.same_login, before.slots);
+      goes_on = record { stays = record { told = λ is. before.told; version = λ is. before.version; limit = λ is. before.limit; faults = before.counted }; stands = before.ready.stands; serves = before.ready.serves };
+      rule = (before.rule, before.children);
+    }
+
+pub returns-clause-cause : goal.returns-clause-cause
+returns-clause-cause g c = record { by_disk = tt; by_spawner = tt; by_door = tt }
 
 pub returns-clause-live : goal.returns-clause-live
 returns-clause-live g c = c.events.invariant.ready.is_open
 
 pub returns-clause-spawn_faults : goal.returns-clause-spawn_faults
 returns-clause-spawn_faults g c = c.events.invariant.spawned
-
-pub returns-clause-rule : goal.returns-clause-rule
-returns-clause-rule g c = (c.events.invariant.rule, c.events.invariant.children)

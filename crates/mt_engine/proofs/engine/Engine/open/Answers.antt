@@ -3,8 +3,9 @@ use Rattle.std.proofs.Common.{◌≡◌, ap, refl, sym, ◌∙◌, Err, is_some}
 use Rattle.mt_disk.proofs.Moments.{joins, leaves_now}
 use Rattle.mt_disk.proofs.Readings.{reads_leave}
 use Rattle.mt_log.specs.LogImage.{SameLog}
+use Rattle.mt_log.proofs.Standing.{stands_on}
 use Rattle.mt_engine.specs.declared.opening.OpenEnd.TheVariants as OpenEnd
-use Rattle.mt_engine.proofs.Openings.{opened_current, opened_readable, refusal_is, refusal_not_disk, refused_before, refused_log}
+use Rattle.mt_engine.proofs.Openings.{opened_current, opened_readable, opened_serves, refusal_is, refusal_not_disk, refused_before, refused_log}
 use Rattle.mt_engine.proofs.engine.Engine.open.Goals as goal
 
 pub returns-in-Ok-load-clause-current : goal.returns-in-Ok-load-clause-current
@@ -18,6 +19,17 @@ returns-in-Ok-load-clause-opened g c =
     let d = g.D.Disk in
     opened_readable d.seen d.may_leave d.moment d.left_since c.args.disk.now c.open.new.disk c.load.new.disk c.in-Ok.log c.in-Ok.ensures.opened.stands c.in-Ok.ensures.opened.is_open (c.in-Ok.ensures.version refl)
     (c.in-Ok.ensures.settled (λ e. cc e)) c.load.ensures.reads.read c.in-Ok-load.account c.in-Ok-load.ensures.loaded c.requires.fit
+
+pub returns-in-Ok-load-clause-ready : goal.returns-in-Ok-load-clause-ready
+returns-in-Ok-load-clause-ready g c =
+    let d = g.D.Disk in
+    record {
+      stands = stands_on d.seen d.may_leave d.moment d.left_since c.open.new.disk c.load.new.disk c.in-Ok.log c.load.ensures.reads.read c.in-Ok.ensures.opened.stands;
+      is_open = c.in-Ok.ensures.opened.is_open;
+      version = c.in-Ok.ensures.version refl;
+      serves = opened_serves d.seen d.may_leave d.moment d.left_since c.args.disk.now c.open.new.disk c.load.new.disk c.in-Ok.log c.in-Ok.ensures.opened.stands c.in-Ok.ensures.opened.is_open (c.in-Ok.ensures.version refl)
+          (c.in-Ok.ensures.settled (λ e. cc e)) c.load.ensures.reads.read c.in-Ok-load.account c.in-Ok-load.ensures.loaded c.requires.fit (ap is_some c.load.ensures.reads.read.seen_same ∙ c.in-Ok.ensures.tells (λ e. cc e));
+    }
 
 pub returns-in-Err-load-clause-refused : goal.returns-in-Err-load-clause-refused
 returns-in-Err-load-clause-refused g c why is =

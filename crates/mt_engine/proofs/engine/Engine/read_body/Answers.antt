@@ -1,17 +1,16 @@
-use Rattle.std.proofs.Common.{Option, sym, subst}
+use Rattle.std.proofs.Common.{sym, subst}
 use Rattle.std.proofs.lemmas.Result.{on_ok_weaker}
-use Rattle.mt_disk.specs.Files.{Files}
 use Rattle.mt_log.specs.LogImage.{payloads_of}
 use Rattle.mt_log.specs.LogState.{IsThere}
-use Rattle.mt_log.proofs.Standing.{stands_on}
 use Rattle.mt_body.specs.Stored.{bytes_of}
-use Rattle.mt_engine.specs.Current.{EngineState, IsCurrent}
+use Rattle.mt_engine.specs.Current.{EngineState}
 use Rattle.mt_engine.proofs.Held.{told_now}
+use Rattle.mt_engine.proofs.Looks.{where_failed}
 use Rattle.mt_engine.proofs.Objects.{stands_for}
 use Rattle.mt_engine.proofs.engine.Engine.read_body.Goals as goal
 
 pub read_body-requires-clause-there : goal.read_body-requires-clause-there
-read_body-requires-clause-there g c = subst (λ (e : EngineState). IsThere g.D.Disk.seen c.args.disk.now e.log) (sym c.self.view_is) c.requires.there
+read_body-requires-clause-there g c = subst (λ (e : EngineState). IsThere g.D.Disk.seen c.args.disk.now e.log) (sym c.self.view_is) c.requires.ready.there
 
 pub returns-clause-part : goal.returns-clause-part
 returns-clause-part g c base h i =
@@ -22,10 +21,7 @@ returns-clause-part g c base h i =
       on_ok_weaker c.read_body.result (λ all. all ps (told_now seen c.args.self.now base h i)) c.read_body.ensures.bytes,
     )
 
-pub returns-clause-current : goal.returns-clause-current
-returns-clause-current g c base h i = subst (λ (f : Option Files). IsCurrent f c.args.self.now base h) (sym c.read_body.ensures.read.seen_same) i
-
-pub returns-clause-stands : goal.returns-clause-stands
-returns-clause-stands g c stands =
-    let d = g.D.Disk in
-    stands_on d.seen d.may_leave d.moment d.left_since c.args.disk.now c.read_body.new.disk c.args.self.now.log c.read_body.ensures.read stands
+pub returns-clause-looks : goal.returns-clause-looks
+returns-clause-looks g c =
+    let read = c.read_body.ensures in
+    record { read = read.read; stays = read.stays; disk = λ is. where_failed c.read_body.result read.cause.failed is; faults = read.cause.later }

@@ -1,18 +1,16 @@
-use Rattle.std.proofs.Common.{Option, sym, subst}
-use Rattle.mt_disk.specs.Files.{Files}
+use Rattle.std.proofs.Common.{sym, subst}
 use Rattle.mt_log.specs.LogImage.{payloads_of}
 use Rattle.mt_log.specs.LogState.{IsThere}
-use Rattle.mt_log.proofs.Standing.{stands_on}
 use Rattle.mt_body.specs.Sending.{Sends}
 use Rattle.mt_body.specs.Stored.{bytes_of}
-use Rattle.mt_engine.specs.Current.{EngineState, IsCurrent}
+use Rattle.mt_engine.specs.Current.{EngineState}
 use Rattle.mt_engine.specs.History.{Bytes}
 use Rattle.mt_engine.proofs.Held.{told_now}
 use Rattle.mt_engine.proofs.Objects.{stands_for}
 use Rattle.mt_engine.proofs.engine.Engine.send_body.Goals as goal
 
 pub send_body-requires-clause-there : goal.send_body-requires-clause-there
-send_body-requires-clause-there g c = subst (λ (e : EngineState). IsThere g.D.Disk.seen c.args.disk.now e.log) (sym c.self.view_is) c.requires.there
+send_body-requires-clause-there g c = subst (λ (e : EngineState). IsThere g.D.Disk.seen c.args.disk.now e.log) (sym c.self.view_is) c.requires.ready.there
 
 pub returns-clause-part : goal.returns-clause-part
 returns-clause-part g c base h i =
@@ -26,10 +24,7 @@ returns-clause-part g c base h i =
           (sent.3 ps (told_now (d.seen c.args.disk.now) c.args.self.now base h i)) sent.2,
     )
 
-pub returns-clause-current : goal.returns-clause-current
-returns-clause-current g c base h i = subst (λ (f : Option Files). IsCurrent f c.args.self.now base h) (sym c.send_body.ensures.read.seen_same) i
-
-pub returns-clause-stands : goal.returns-clause-stands
-returns-clause-stands g c stands =
-    let d = g.D.Disk in
-    stands_on d.seen d.may_leave d.moment d.left_since c.args.disk.now c.send_body.new.disk c.args.self.now.log c.send_body.ensures.read stands
+pub returns-clause-reads : goal.returns-clause-reads
+returns-clause-reads g c =
+    let sent = c.send_body.ensures in
+    record { read = sent.read; disk = sent.disk; faults = sent.faults }

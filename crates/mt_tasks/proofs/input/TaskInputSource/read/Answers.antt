@@ -10,13 +10,14 @@ use Rattle.mt_tasks.proofs.Rights.{test_stored}
 use Rattle.mt_tasks.proofs.There.{there_kept}
 use Rattle.mt_tasks.proofs.input.TaskInputSource.read.Goals as goal
 
-pub read_body-requires-clause-there : goal.read_body-requires-clause-there
-read_body-requires-clause-there g c = there_kept (g.D.Disk.seen c.args.self.now.disk.now) c.args.self.now.engine.now.log c.args.self.now.reads.there
-
-pub read_body-requires-clause-stored : goal.read_body-requires-clause-stored
-read_body-requires-clause-stored g c ps at =
+pub read_body-requires-clause-ready : goal.read_body-requires-clause-ready
+read_body-requires-clause-ready g c =
     let some = rw c.in-Some.is at c.next_body.ensures.some in
-    test_stored ps (bodies_of_task c.args.self.now.engine.now.state.jobs c.args.self.now.task) c.next_body.result.0.next c.in-Some.body.now (c.args.self.now.reads.stored ps at) some.0
+    record {
+      there = there_kept (g.D.Disk.seen c.args.self.now.disk.now) c.args.self.now.engine.now.log c.args.self.now.reads.there;
+      is_open = c.args.self.now.reads.is_open;
+      stored = λ ps at. test_stored ps (bodies_of_task c.args.self.now.engine.now.state.jobs c.args.self.now.task) c.next_body.result.0.next c.in-Some.body.now (c.args.self.now.reads.stored ps at) some.0;
+    }
 
 pub overflow_add-self : goal.overflow_add-self
 overflow_add-self g c =
@@ -54,8 +55,8 @@ returns-in-Ok-clause-reads g c =
     ∙ ap (λ (l : List ℕ). l ++ f' ps) (sym (take_at part (drop n c.args.into.now) n long ∙ read)) in (
       omega (arith, c.requires, some.1, c.min-count.ensures, c.size.ensures),
       omega (arith, length-append part (drop n c.args.into.now), long),
-      took_left (told (g.D.Disk.seen self.disk.now)) f f' xs cut ∙ ap (λ (o : Option Files). option_map (λ rest. xs ++ rest) (option_map f' (told o))) (sym c.in-Ok.ensures.read.seen_same),
-      c.in-Ok.ensures.cause.later,
+      took_left (told (g.D.Disk.seen self.disk.now)) f f' xs cut ∙ ap (λ (o : Option Files). option_map (λ rest. xs ++ rest) (option_map f' (told o))) (sym c.in-Ok.ensures.looks.read.seen_same),
+      c.in-Ok.ensures.looks.faults,
     )
 
 pub returns-in-Err-clause-reads : goal.returns-in-Err-clause-reads
@@ -65,6 +66,6 @@ returns-in-Err-clause-reads g c =
     let f : List (List ℕ) → List ℕ = λ ps. left_at (bytes_of ps) bodies self.place in
     let f' : List (List ℕ) → List ℕ = λ ps. left_at (bytes_of ps) bodies c.next_body.result.0 in
     let same : (ps : List (List ℕ)) → f' ps ≡ f ps = λ ps. c.next_body.ensures.same (bytes_of ps) (length-bytes_of ps) in (
-      ap (λ (o : Option Files). option_map f' (told o)) c.in-Err.ensures.read.seen_same ∙ same_left (told (g.D.Disk.seen self.disk.now)) f f' same,
-      c.in-Err.ensures.cause.failed,
+      ap (λ (o : Option Files). option_map f' (told o)) c.in-Err.ensures.looks.read.seen_same ∙ same_left (told (g.D.Disk.seen self.disk.now)) f f' same,
+      c.in-Err.ensures.looks.disk refl,
     )
