@@ -310,6 +310,27 @@ def stops(files, steps, calls, counts):
                     row(" ".join(["stop", str(call)] + picks), stop(files, steps, call, picks))
 
 
+class Ahead:
+    """A disk that reads ahead in One, by the page of mt_ahead: `end` bytes are known to be there, and `held` of them from `at` on."""
+
+    def __init__(self, disk, window):
+        self.disk, self.window, self.known = disk, window, (len(disk.now["one"]), 0, b"")
+
+    def read(self, at, count):
+        end, first, held = self.known
+        if count >= self.window or at + count > end:
+            return self.disk.read("one", at, count)
+        if at < first or at + count > first + len(held):
+            first, held = at, self.disk.read("one", at, min(self.window, end - at))
+            self.known = end, first, held
+        return held[at - first:][:count]
+
+    def change(self, call, name, *words):
+        kept, self.known = (0, 0, b"") if name == "one" else self.known, (0, 0, b"")
+        getattr(self.disk, call)(name, *words)
+        self.known = kept
+
+
 class Table:
     """A disk and a log, of whose calls each becomes a row."""
 
@@ -341,6 +362,16 @@ class Table:
             row(f"read {name} {at} {count}", "Ok(()) " + whole(self.it.read(name, at, count)))
         except Fault:
             row(f"read {name} {at} {count}", "Err(DiskFault) " + "\\x00" * count)
+
+    def ahead(self, window, call, name, place, *piece):
+        before, over, done = self.it.calls, Ahead(self.it, window), "Ok(())"
+        first = whole(over.read(0, 2))
+        try:
+            over.change(call, name, place, *piece)
+        except Fault:
+            done = "Err(DiskFault)"
+        second = whole(over.read(2, 2))
+        row(" ".join([f"ahead {window} {call} {name} {place}", *map(word, piece)]), f"Ok(()) {first}, {done}, Ok(()) {second}; {self.it.calls - before} calls")
 
     def file(self, name):
         row(f"file {name}", whole(self.it.now[name]))
@@ -444,6 +475,17 @@ def disks(t):
         t.sync("two")
     t.cut("two", 0)
     crashes(t, room)
+
+
+def reads_ahead(t):
+    say("Over a disk that reads ahead in One: a write or a cut of another file keeps what was read, and the next read makes no call. One of One")
+    print("# forgets it, and so does one that fails; and a window that has no more bytes than a read is never filled.")
+    for window, *call in [(4, "write", "two", 2, b"z"), (4, "cut", "two", 0), (4, "write", "one", 4, b"z"), (4, "cut", "one", 4), (2, "write", "two", 2, b"z")]:
+        t.disk(b"", b"abcdef", b"xy")
+        t.ahead(window, *call)
+    for call in [("write", "two", 2, b"z"), ("cut", "two", 0)]:
+        t.disk(b"", b"abcdef", b"xy", [1])
+        t.ahead(4, *call)
 
 
 def crashes(t, room):
@@ -605,6 +647,7 @@ def sessions():
 def main():
     t = Table()
     disks(t)
+    reads_ahead(t)
     openings(t)
     limits(t)
     faults(t)

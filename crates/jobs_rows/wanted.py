@@ -147,7 +147,10 @@ class Account:
 
     @staticmethod
     def is_committed(job, phase, place):
-        return any((entry["phase"], entry["place"]) == (phase, place) for entry in job["trace"])
+        # The set is made anew of the whole trace where it has grown.
+        if job.get("seen", (0, set()))[0] != len(job["trace"]):
+            job["seen"] = (len(job["trace"]), {(entry["phase"], entry["place"]) for entry in job["trace"]})
+        return (phase, place) in job.get("seen", (0, set()))[1]
 
     def is_complete(self, job, phase):
         return all(self.is_committed(job, phase, it) for it in self.places(job, phase))
@@ -265,7 +268,65 @@ class Account:
         self.set_done(job, how == "cancelled")
 
 
+class Listing(Account):
+    """Jobs that are taken from a list, of an account of so many commands: each by the rules of lawful jobs."""
+
+    def __init__(self, count):
+        super().__init__()
+        self.count = count
+
+    def take(self, text, number, inputs, missing):
+        phases, number, inputs, missing = json.loads(text)["phases"], int(number), int(inputs), int(missing)
+        above = all(it["number"] < number for it in self.jobs)
+        if number % NUMBERS or number >= self.count * NUMBERS or not above or inputs + missing > MOST_LINES:
+            return False
+        kinds = [phase.get("count", 1) if phase.get("type") == "reduce" else "map" for phase in phases]
+        assets = [[1] * len(phase.get("assets", [])) for phase in phases]
+        self.jobs.append(dict(number=number, phases=phases, kinds=kinds, assets=assets, inputs=self.items(inputs), missing=missing, ended=False, done=None, cancelled=False, trace=[]))
+        return True
+
+    @staticmethod
+    def items(count):
+        return [dict(name=("stor", "a"), root="root", body=k + 1, reducer=None) for k in range(count)]
+
+    def last(self):
+        """The last job, where it runs."""
+        return next((it for it in self.jobs[-1:] if it["done"] is None), None)
+
+    def ended(self):
+        job = self.last()
+        if job is None or job["ended"]:
+            return False
+        job["ended"] = True
+        return True
+
+    def entry(self, phase, place, position, outputs):
+        job, phase, place, position = self.last(), int(phase), int(place), int(position)
+        if job is None or not self.may_run(job, phase, place) or self.is_committed(job, phase, place):
+            return False
+        if position >= self.count or any(it["position"] >= position for it in job["trace"][-1:]):
+            return False
+        job["trace"].append(dict(phase=phase, place=place, position=position, items=self.items(int(outputs)), failure=None))
+        return True
+
+    def entries(self, count, first):
+        """The first tasks of the first phase: place and position rise together, so that no test walks over what is there."""
+        job, count, first = self.last(), int(count), int(first)
+        good = 0 if job is None or job["trace"] else max(0, min(count, len(job["inputs"]), self.count - first))
+        if good:
+            job["trace"] = [dict(phase=0, place=k, position=first + k, items=[], failure=None) for k in range(good)]
+        return good == count
+
+    def done(self, moment, how):
+        job = self.last()
+        if job is None or how != "cancelled" and not self.waits(job):
+            return False
+        job["done"], job["cancelled"] = int(moment), how == "cancelled"
+        return True
+
+
 account = Account()
+LISTED = ("take", "ended", "entry", "entries", "done")
 CHANGES = ("put", "directory", "make", "add", "lines", "end", "commit", "fail", "finish", "cancel", "close", "fed", "emitted", "committed", "made")
 
 
@@ -309,6 +370,10 @@ def told_order(job, phase, place):
 
 
 def asked(words):
+    if words[0] == "list":
+        return f"{len(account.jobs)} jobs"
+    if words[0] in LISTED:
+        return "taken" if getattr(account, words[0])(*words[1:]) else "refused"
     call, numbers = words[0], [int(it) for it in words[1:] if it.isdigit()]
     found = [it for it in account.jobs if numbers and it["number"] == numbers[0]]
     if call == "ready":
@@ -353,6 +418,9 @@ def row(text):
     if words[0] == "new":
         account = Account()
         return print("new")
+    if words[0] == "listing":
+        account = Listing(int(words[1]))
+        return print(text)
     answer = changed(words) if words[0] in CHANGES else asked(words)
     first, *more = answer.split("\n")
     print("\n".join([f"{text:<48} => {first}"] + more))
@@ -465,9 +533,41 @@ def main():
     rows("new", *[f"make {job('map')}"] * 7, "cancel 4096", "cancel 12288", "cancel 20480", "page running 0 9", "page running 8192 2", "page running 8193 2", "page running 99999 2", "page done 0 2", "page done 20480 2", "page done 0 0", "page done 4097 9")
     rows("end 0", "ready", "finish 0", "ready", "finish 8192")
 
+    comment("Jobs that are listed, and taken from the list part by part, are the jobs that commands made: the same questions have the same answers.")
+    rows("new", "list", "ready", "page running 0 9", "put /l/stor/a 1", f"make {job('map', 2)}", "list", "ready", "job 4096", "add 4096 /l/stor/a /l/stor/a /l/stor/a x", "list", "ready", "read 4096 0 2", "item 4096 0 3", "job 4096")
+    rows("commit 4096 0 2 emit - - 30 emit - 1 31", "list", "ready", "ready 4096 0 0", "read 4096 0 2", "item 4096 1 0", "item 4096 1 1", "item 4096 1 2", "job 4096")
+    rows("fail 4096 0 0 7", "end 4096", "commit 4096 0 1 emit - - 10", "list", "ready", "ready 4096 1 0", "read 4096 1 0", "read 4096 1 1", "size 4096 1 1", "order 4096 1 1", "job 4096")
+    rows("commit 4096 1 1 emit - - 5", "list", "ready", "read 4096 1 0", "read 4096 1 1", "commit 4096 1 0 emit - - 6", "list", "ready", "job 4096", "page running 0 9")
+    rows(f"make {job('map')}", f"make {job(2)}", f"make {job('map', 'map', 3, 'map', assets=['/l/stor/a'])}", "finish 4096", f"add {11 * 4096} /l/stor/a", f"cancel {9 * 4096}", f"end {10 * 4096}", "list", "ready", f"ready {10 * 4096} 0 0 {10 * 4096} 0 1", f"read {10 * 4096} 0 1", "page running 0 9", "page done 0 9", "job 4096", f"job {9 * 4096}", f"job {10 * 4096}", f"job {11 * 4096}")
+    rows(f"commit {11 * 4096} 0 0 emit - 1 8 emit - - 9", f"commit {11 * 4096} 1 1 emit - - 7", f"end {11 * 4096}", f"commit {11 * 4096} 1 0", f"commit {11 * 4096} 2 0 emit - - 4", "list", "ready", f"ready {10 * 4096} 0 0 {10 * 4096} 0 1 {11 * 4096} 2 1", f"read {11 * 4096} 2 1", f"read {11 * 4096} 3 0", f"size {11 * 4096} 2 2", f"job {11 * 4096}")
+
+    comment("A list of an account of 8 commands: the number of a job is the first of a command so far, and above the others.")
+    rows("listing 8", "ready", f"take {job('map')} 4097 0 0", f"take {job('map')} 32768 0 0", f"take {job('map')} 0 0 0", f"take {job('map')} 0 1 0", f"take {job('map', 2)} 8192 3 1", f"take {job('map')} 4096 1 0", f"take {job('map')} 8192 1 0", f"take {job('map')} 28672 0 0", f"take {job('map')} 28671 0 0", f"take {job('map')} 18446744073709551615 0 0", "page running 0 9", "ready", "read 8192 0 1", "job 8192")
+    rows("listing 0", f"take {job('map')} 0 0 0", "ended", "entry 0 0 0 0", "done 1000 cancelled", "page running 0 9", "listing 1125899906842623", f"take {job('map')} {4096 * ((1 << 50) - 1)} 0 0", f"take {job('map')} {4096 * ((1 << 50) - 2)} 1 0", f"entry 0 0 {(1 << 50) - 1} 0", f"entry 0 0 {(1 << 50) - 2} 0", "ready")
+
+    comment("It has at most 1,000,000 inputs and missing lines.")
+    rows("listing 1", f"take {job('map')} 0 2 999999", f"take {job('map')} 0 0 1000001", "page running 0 9", f"take {job('map')} 0 1 999999", "job 0", "ready")
+
+    comment("The input of the last job ends once, and before it is done.")
+    rows("listing 3", f"take {job('map')} 0 0 0", "ready", "ended", "ended", "ready", "done 1000 finished", "ended", "ready", "job 0", f"take {job('map')} 4096 0 0", "done 1001 cancelled", "ended", "done 1001 cancelled", "job 4096")
+
+    comment("An entry is of a task that may run and is not committed, at a position of a command so far and behind that of the entry before.")
+    rows("listing 9", f"take {job('map', 'map', 2)} 0 2 0", "entry 0 2 3 0", "entry 3 0 3 0", "entry 4294967295 0 3 0", "entry 1 0 3 0", "entry 2 0 3 0", "entry 0 1 9 1", "entry 0 1 18446744073709551615 1", "entry 0 1 3 2", "entry 0 1 4 2", "entry 0 0 3 0", "entry 0 0 2 0", "entry 1 2 4 0", "entry 1 1 4 1")
+    rows("ready", "ready 0 0 0", "entry 2 0 5 0", "ended", "entry 2 0 5 0", "entry 0 0 5 0", "entry 2 0 6 0", "entry 1 0 6 3", "entry 2 2 7 0", "read 0 2 0", "read 0 2 1", "entry 2 1 7 1", "ready", "entry 2 0 8 4095", "entry 2 0 8 0", "ready", "job 0")
+
+    comment("It is done where it is cancelled, or its input has ended and each task is committed.")
+    rows("listing 9", "done 1000 cancelled", f"take {job('map', 2)} 0 1 0", "done 1000 finished", "ended", "done 1000 finished", "entry 0 0 1 2", "done 1000 finished", "entry 1 1 2 0", "done 1000 finished", "entry 1 0 3 0", "ready", "done 1000 finished", "done 1000 finished", "entry 1 0 4 0", "ready", "job 0", "page done 0 9")
+    rows(f"take {job('map')} 4096 2 0", "entry 0 1 4 0", "done 1001 cancelled", "ready", "entry 0 0 5 0", "job 4096", "page running 0 9", "page done 0 9")
+
+    comment("A job of 100,000 entries; the one behind the last is refused.")
+    rows("listing 100009", f"take {job('map', 3)} 0 100000 0", "entries 100001 4", "ready", "ended", "ready", "size 0 1 2", "looked 0 100000", "entry 1 2 100003 0", "entry 1 2 100004 0", "ready")
+
     comment("Much at once, as bench/jobs asks for it.")
     rows("new", "put /l/stor/a 3", f"make {job('map')}", "fed 4096 /l/stor/a 1000", "looked 4096 1000", "asked 2 64", "committed 4096 990", "ready", "looked 4096 2000")
     rows("new", "put /l/stor/a 3", "made 100 /l/stor/a", "ready", "asked 1000 64", "asked 3 1", "committed 4096 1", "asked 1 64", "asked 1 0", "page running 700000 9")
+
+    comment("The next task a million times: 2,000 of which one is left, and then none.")
+    rows("new", "put /l/stor/a 3", f"make {job('map')}", "fed 4096 /l/stor/a 2000", "committed 4096 1999", "ready", "asked 1000000 0", "commit 4096 0 1999", "asked 1000000 0")
 
 
 if __name__ == "__main__":

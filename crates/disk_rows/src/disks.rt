@@ -1,4 +1,5 @@
 //! The calls of `mt_disk`.
+use crate::ahead::put_ahead;
 use crate::logs;
 use mt_disk::{Disk, FileNo};
 use mt_log::Log;
@@ -53,6 +54,7 @@ pub fn answer(
         "sync" => put_sync(disk, row, out),
         "file" => Ok(put_bytes(out, disk.file(file_at(row, 1)?))?),
         "calls" => Ok(write!(out, "{}", disk.calls())?),
+        "ahead" => put_ahead(alloc, disk, row, out),
         _ => match log {
             Some(log) => logs::answer(alloc, disk, log, row, out),
             None => Err(Stop::NoSuchRow),

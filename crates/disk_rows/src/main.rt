@@ -2,8 +2,10 @@
 //!
 //! - `state`: the disk, of which rows may ask anything, and the log that they speak of.
 //! - `disks`, `logs`: the calls of `mt_disk` and of `mt_log`. `stops`: sessions in which a call of the disk fails.
+//! - `ahead`: reads over a disk of `mt_ahead`.
 #![tactic(auto)]
 
+mod ahead;
 mod disks;
 mod logs;
 mod state;

@@ -3,7 +3,7 @@ use crate::disks::{self, put_bytes};
 use crate::logs::put_refusal;
 use crate::stops::{crashed, put_stop};
 use mt_disk::{FileNo, Room};
-use mt_log::Log;
+use mt_log::{Log, OpenError};
 use mt_rows::{Row, Rows, Stop};
 use mt_untold::{Untold, picks_of};
 use std::alloc::{AllocError, Global};
@@ -74,15 +74,19 @@ impl Disks {
         }
     }
 
+    // The log that a row opens, or why it isn't opened.
+    fn opened(&mut self, alloc: Global, row: &Row) -> Result<Result<Log, OpenError>, Stop> {
+        let is_any = row.text(0)? == "open-any";
+        let limit = row.number(1)?;
+        match &mut self.disk {
+            Some(disk) if is_any => Ok(Log::open_any(alloc, disk, limit)),
+            Some(disk) => Ok(Log::open(alloc, disk, limit)),
+            None => Err(Stop::NoSuchRow),
+        }
+    }
+
     fn open(&mut self, alloc: Global, row: &Row, out: &mut String) -> Result<(), Stop> {
-        let Some(disk) = &mut self.disk else {
-            return Err(Stop::NoSuchRow);
-        };
-        let opened = match row.text(0)? {
-            "open" => Log::open(alloc, disk, row.number(1)?),
-            _ => Log::open_any(alloc, disk, row.number(1)?),
-        };
-        match opened {
+        match self.opened(alloc, row)? {
             Ok(log) => {
                 write!(out, "Ok({})", log.len())?;
                 self.log = Some(log);

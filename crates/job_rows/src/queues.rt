@@ -5,7 +5,7 @@ use mt_base::{Sequence, Text};
 use mt_rows::{Row, Stop};
 use mt_sched::{Queue, Sched};
 use mt_types::{Phase, PhaseKind, Task};
-use std::alloc::Global;
+use std::alloc::{AllocError, Global};
 
 /// The jobs that were added, and how many.
 #[derive(Drop)]
@@ -24,17 +24,22 @@ fn narrow(number: u64) -> Result<u32, Stop> {
     }
 }
 
-// A phase by its word: `map`, or the number of its reducers.
-fn phase(alloc: Global, row: &Row, place: usize) -> Result<Phase, Stop> {
-    let kind = match row.bytes(place)? {
-        b"map" => PhaseKind::Map,
-        _ => PhaseKind::Reduce {
+// The kind of a phase by its word: `map`, or the number of its reducers.
+fn kind(row: &Row, place: usize) -> Result<PhaseKind, Stop> {
+    match row.text(place)? {
+        "map" => Ok(PhaseKind::Map),
+        _ => Ok(PhaseKind::Reduce {
             count: narrow(row.number(place)?)?,
-        },
-    };
+        }),
+    }
+}
+
+fn phase(alloc: Global, row: &Row, place: usize) -> Result<Phase, Stop> {
+    let kind = kind(row, place)?;
+    let exec = Text::from_str(alloc, "x")?;
     Ok(Phase {
         kind,
-        exec: Text::from_str(alloc, "x")?,
+        exec,
         init: None,
         assets: Sequence::new(alloc),
     })
@@ -50,14 +55,10 @@ fn phases(alloc: Global, row: &Row) -> Result<Vec<Phase>, Stop> {
 
 // The task that three words from a place on name.
 fn task(row: &Row, place: usize) -> Result<Task, Stop> {
-    if place >= 1 << 32 {
-        return Err(Stop::NoSuchRow);
-    }
-    Ok(Task {
-        job: row.number(place)?,
-        phase: narrow(row.number(place + 1)?)?,
-        place: row.number(place + 2)?,
-    })
+    let job = row.number(place)?;
+    let phase = narrow(row.number(place.wrapping_add(1))?)?;
+    let place = row.number(place.wrapping_add(2))?;
+    Ok(Task { job, phase, place })
 }
 
 // The tasks that are skipped: three words each.
@@ -69,12 +70,18 @@ fn skipped(alloc: Global, row: &Row) -> Result<Vec<Task>, Stop> {
     Ok(tasks)
 }
 
-fn put_task(found: Option<Task>, out: &mut String) -> Result<(), Stop> {
+fn put_task(found: Option<Task>, out: &mut String) -> Result<(), AllocError> {
     match found {
-        Some(task) => write!(out, "{} {} {}", task.job, task.phase, task.place)?,
-        None => out.push('-')?,
+        Some(task) => write!(out, "{} {} {}", task.job, task.phase, task.place),
+        None => out.push('-'),
     }
-    Ok(())
+}
+
+fn put_waiting(found: Option<u64>, out: &mut String) -> Result<(), AllocError> {
+    match found {
+        Some(job) => write!(out, ", {job} waits"),
+        None => Ok(()),
+    }
 }
 
 // The words that hold of a task.
@@ -107,65 +114,90 @@ impl Queues {
         }
     }
 
-    fn add(&mut self, alloc: Global, row: &Row) -> Result<(), Stop> {
-        let phases = phases(alloc, row)?;
+    fn add(&mut self, alloc: Global, row: &Row) -> Result<bool, Stop> {
         let job = self.made;
         if job == u64::MAX {
             return Err(Stop::NoSuchRow);
         }
+        let phases = phases(alloc, row)?;
         self.sched.add(alloc, job, &phases)?;
         self.made = job + 1;
-        Ok(())
+        Ok(true)
     }
 
-    fn remove(&mut self, row: &Row) -> Result<(), Stop> {
-        self.sched.remove(row.number(1)?);
-        Ok(())
+    // `feed JOB PHASE`
+    fn feed(&mut self, row: &Row) -> Result<bool, Stop> {
+        let job = row.number(1)?;
+        let phase = narrow(row.number(2)?)?;
+        self.sched.feed(job, phase)?;
+        Ok(true)
+    }
+
+    // `commit JOB PHASE PLACE`
+    fn commit(&mut self, row: &Row) -> Result<bool, Stop> {
+        let task = task(row, 1)?;
+        self.sched.commit(&task)?;
+        Ok(true)
+    }
+
+    // `end JOB`
+    fn end(&mut self, row: &Row) -> Result<bool, Stop> {
+        let job = row.number(1)?;
+        self.sched.end(job)?;
+        Ok(true)
+    }
+
+    // `remove JOB`
+    fn remove(&mut self, row: &Row) -> Result<bool, Stop> {
+        let job = row.number(1)?;
+        self.sched.remove(job);
+        Ok(true)
     }
 
     // The first ready task, and the first job that waits to be finished.
-    fn put_next(&self, skip: &[Task], out: &mut String) -> Result<(), Stop> {
+    fn put_next(&self, skip: &[Task], out: &mut String) -> Result<bool, Stop> {
         put_task(self.sched.next_ready(skip), out)?;
-        if let Some(job) = self.sched.waits_finish() {
-            write!(out, ", {job} waits")?;
-        }
-        Ok(())
+        put_waiting(self.sched.waits_finish(), out)?;
+        Ok(true)
     }
 
-    fn put_task_facts(&self, task: &Task, out: &mut String) -> Result<(), Stop> {
+    // `task JOB PHASE PLACE`
+    fn put_task_facts(&self, row: &Row, out: &mut String) -> Result<bool, Stop> {
+        let task = task(row, 1)?;
         match self.sched.get(task.job) {
-            Some(queue) => put_facts(queue, task.phase, task.place, out),
-            None => {
-                out.push_str("none")?;
-                Ok(())
-            }
+            Some(queue) => put_facts(queue, task.phase, task.place, out)?,
+            None => out.push_str("none")?,
         }
+        Ok(true)
+    }
+
+    // `next`, `next JOB PHASE PLACE ..`
+    fn put_next_but(&self, alloc: Global, row: &Row, out: &mut String) -> Result<bool, Stop> {
+        let skip = skipped(alloc, row)?;
+        self.put_next(&skip, out)
     }
 
     // Makes the change of a row, if it is one.
     fn change(&mut self, alloc: Global, row: &Row) -> Result<bool, Stop> {
-        match row.call() {
-            b"add" => self.add(alloc, row)?,
-            b"feed" => self.sched.feed(row.number(1)?, narrow(row.number(2)?)?)?,
-            b"commit" => self.sched.commit(&task(row, 1)?)?,
-            b"end" => self.sched.end(row.number(1)?)?,
-            b"remove" => self.remove(row)?,
-            _ => return Ok(false),
+        match row.text(0)? {
+            "add" => self.add(alloc, row),
+            "feed" => self.feed(row),
+            "commit" => self.commit(row),
+            "end" => self.end(row),
+            "remove" => self.remove(row),
+            _ => Ok(false),
         }
-        Ok(true)
     }
 
     /// The answer to a row of this crate, if it is one.
     pub fn answer(&mut self, alloc: Global, row: &Row, out: &mut String) -> Result<bool, Stop> {
         if self.change(alloc, row)? {
-            self.put_next(&[], out)?;
-            return Ok(true);
+            return self.put_next(&[], out);
         }
-        match row.call() {
-            b"next" => self.put_next(&skipped(alloc, row)?, out)?,
-            b"task" => self.put_task_facts(&task(row, 1)?, out)?,
-            _ => return Ok(false),
+        match row.text(0)? {
+            "next" => self.put_next_but(alloc, row, out),
+            "task" => self.put_task_facts(row, out),
+            _ => Ok(false),
         }
-        Ok(true)
     }
 }

@@ -95,6 +95,13 @@ fn entry(row: &Row, outcome: Outcome<Body>) -> Result<TraceEntry<Body>, Stop> {
     })
 }
 
+fn document(alloc: Global, row: &Row) -> Result<JobDocument, Stop> {
+    match read(alloc, LOGIN, row.bytes(3)?) {
+        Ok(document) => Ok(document),
+        Err(_) => Err(Stop::NoSuchRow),
+    }
+}
+
 fn made(alloc: Global, number: u64, created: u64, document: JobDocument) -> Job<Body> {
     Job {
         number,
@@ -300,6 +307,21 @@ fn on_kept(alloc: Global, kept: &FedJob<Body>, row: &Row, out: &mut String) -> R
     }
 }
 
+// The job after a row, and whether the row was on it.
+fn after(
+    alloc: Global,
+    job: Job<Body>,
+    row: &Row,
+    out: &mut String,
+) -> Result<(Job<Body>, bool), Stop> {
+    let mut job = job;
+    let changed = changes(alloc, &mut job, row)?;
+    let kept = FedJob::with_feeds(alloc, job)?;
+    let answered = changed || on_kept(alloc, &kept, row, out)?;
+    let FedJob { job, .. } = kept;
+    Ok((job, answered))
+}
+
 impl Texts {
     /// No job.
     pub fn new() -> Texts {
@@ -307,35 +329,29 @@ impl Texts {
     }
 
     // Makes a job of this number, moment and document.
-    fn make(&mut self, alloc: Global, row: &Row) -> Result<(), Stop> {
-        match read(alloc, LOGIN, row.bytes(3)?) {
-            Ok(document) => {
-                self.job = Some(made(alloc, row.number(1)?, row.number(2)?, document));
-                Ok(())
-            }
-            Err(_) => Err(Stop::NoSuchRow),
-        }
+    fn make(&mut self, alloc: Global, row: &Row) -> Result<bool, Stop> {
+        let number = row.number(1)?;
+        let created = row.number(2)?;
+        let document = document(alloc, row)?;
+        self.job = Some(made(alloc, number, created, document));
+        Ok(true)
     }
 
     // The answer to a row on the job, if there is one and it is one.
     fn on_job(&mut self, alloc: Global, row: &Row, out: &mut String) -> Result<bool, Stop> {
-        let Some(mut job) = self.job.take() else {
+        let Some(job) = self.job.take() else {
             return Ok(false);
         };
-        let changed = changes(alloc, &mut job, row)?;
-        let kept = FedJob::with_feeds(alloc, job)?;
-        let answered = changed || on_kept(alloc, &kept, row, out)?;
-        let FedJob { job, .. } = kept;
+        let (job, answered) = after(alloc, job, row, out)?;
         self.job = Some(job);
         Ok(answered)
     }
 
     /// The answer to a row of this crate, if it is one.
     pub fn answer(&mut self, alloc: Global, row: &Row, out: &mut String) -> Result<bool, Stop> {
-        if row.call() == b"job".as_slice() {
-            self.make(alloc, row)?;
-            return Ok(true);
+        match row.text(0)? {
+            "job" => self.make(alloc, row),
+            _ => self.on_job(alloc, row, out),
         }
-        self.on_job(alloc, row, out)
     }
 }

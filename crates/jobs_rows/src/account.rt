@@ -11,8 +11,8 @@ use mt_jobs::{Jobs, may_make_job};
 use mt_rows::Stop;
 use mt_tree::Tree;
 use mt_types::{
-    Archive, Area, Body, Fate, InputLine, JobDocument, MOST_COMMANDS, NUMBERS_A_COMMAND, Object,
-    Path, Refusal, Sequence, Task, Text,
+    Archive, Area, Body, Fate, InputLine, Job, JobDocument, MOST_COMMANDS, NUMBERS_A_COMMAND,
+    Object, Path, Refusal, Sequence, Task, Text,
 };
 use std::alloc::{AllocError, Global};
 use std::marker::Model;
@@ -85,6 +85,10 @@ fn archive() -> Archive<Body> {
 }
 
 impl Account {
+    ghost use Rattle.std.specs.Prelude.{◌≡◌, ◌<◌, ℕ, IfSome};
+    ghost use Rattle.mt_types.specs.declared.body.Body.{Body};
+    ghost use Rattle.mt_model.specs.Lawful.{LawfulJob};
+
     /// An empty account.
     pub fn new(alloc: Global) -> Result<Account, AllocError> {
         Ok(Account {
@@ -100,6 +104,13 @@ impl Account {
 
     pub fn jobs(&self) -> &Jobs<Body> {
         &self.jobs
+    }
+
+    /// The job at a place, in the order in which they were made.
+    pub fn job(&self, place: usize) -> Option<&Job<Body>>
+        ensures { IfSome result (λ j. (count : ℕ) × LawfulJob count j.now) }
+    {
+        self.jobs.at(place)
     }
 
     pub fn position(&self) -> u64

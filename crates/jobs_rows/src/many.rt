@@ -7,6 +7,7 @@ ghost use Rattle.mt_types.specs.declared.limits.TheConstants.{MOST_COMMANDS};
 use crate::account::{Account, Changed};
 use crate::words::{outputs, path_at, simple_document, task_at};
 use mt_base::Duplicate;
+use mt_jobs::Jobs;
 use mt_rows::{Row, Stop};
 use mt_types::{Body, Fate, InputLine, MOST_COMMANDS, Path, Refusal, Sequence, Task};
 use std::alloc::{AllocError, Global};
@@ -25,16 +26,33 @@ fn taken(changed: Changed) -> Result<Account, Stop> {
     }
 }
 
+// A line that names this object.
+fn line_of(alloc: Global, path: &Path) -> Result<InputLine, AllocError>
+    ensures { IfOk result IsWellMadeLine }
+{
+    let path = path.copy(alloc)?;
+    let _key = path.key();
+    Ok(InputLine::Named(path))
+}
+
 // So many lines that name this object.
 fn lines_of(alloc: Global, path: &Path, count: u64) -> Result<Vec<InputLine>, AllocError>
     ensures { IfOk result (λ v. AllByRecursion IsWellMadeLine v.items) }
 {
-    let _key = path.key();
     let mut lines = Vec::new(alloc);
     for _ in 0..count {
-        lines.push(InputLine::Named(path.copy(alloc)?))?;
+        lines.push(line_of(alloc, path)?)?;
     }
     Ok(lines)
+}
+
+// The lines of a row.
+fn lines_at(alloc: Global, row: &Row) -> Result<Vec<InputLine>, Stop>
+    ensures { IfOk result (λ v. AllByRecursion IsWellMadeLine v.items) }
+{
+    let count = row.number(3)?.min(MOST);
+    let path = path_at(alloc, row, 2)?;
+    Ok(lines_of(alloc, &path, count)?)
 }
 
 /// `fed JOB PATH COUNT`: so many lines at once that name an object.
@@ -42,9 +60,7 @@ pub fn feed(account: Account, alloc: Global, row: &Row) -> Changed
     requires { account.count < MOST_COMMANDS }
 {
     let job = row.number(1)?;
-    let count = row.number(3)?.min(MOST);
-    let path = path_at(alloc, row, 2)?;
-    let lines = lines_of(alloc, &path, count)?;
+    let lines = lines_at(alloc, row)?;
     account.add(alloc, job, &lines)
 }
 
@@ -82,18 +98,30 @@ pub fn emit(account: Account, alloc: Global, row: &Row) -> Changed
     account.commit(alloc, &task, &fate)
 }
 
+// One job.
+fn make_simple(account: Account, alloc: Global) -> Result<Account, Stop>
+    requires { account.count < MOST_COMMANDS }
+{
+    taken(account.make(alloc, simple_document(alloc)?))
+}
+
+// One input of a job.
+fn feed_one(account: Account, alloc: Global, job: u64, path: &Path) -> Result<Account, Stop> {
+    if account.position() >= MOST_COMMANDS {
+        return Err(Stop::NoSuchRow);
+    }
+    let lines = lines_of(alloc, path, 1)?;
+    taken(account.add(alloc, job, &lines))
+}
+
 // One job with one input.
 fn make_one(account: Account, alloc: Global, path: &Path) -> Result<Account, Stop> {
     let number = account.position();
     if number >= MOST_COMMANDS - 1 {
         return Err(Stop::NoSuchRow);
     }
-    let account = taken(account.make(alloc, simple_document(alloc)?))?;
-    if account.position() >= MOST_COMMANDS {
-        return Err(Stop::NoSuchRow);
-    }
-    let lines = lines_of(alloc, path, 1)?;
-    taken(account.add(alloc, number * 4096, &lines))
+    let account = make_simple(account, alloc)?;
+    feed_one(account, alloc, number * 4096, path)
 }
 
 /// `made COUNT PATH`: jobs of one map phase, each with one input.
@@ -108,7 +136,7 @@ pub fn make(account: Account, alloc: Global, row: &Row) -> Changed {
 }
 
 /// `looked JOB COUNT`: the items of the first places of the first phase. The bytes of their bodies, added up.
-pub fn look(account: &Account, row: &Row, out: &mut String) -> Result<(), Stop> {
+pub fn look(jobs: &Jobs<Body>, row: &Row, out: &mut String) -> Result<(), Stop> {
     let job = row.number(1)?;
     let mut sum: u64 = 0;
     for place in 0..row.number(2)?.min(MOST) {
@@ -117,7 +145,7 @@ pub fn look(account: &Account, row: &Row, out: &mut String) -> Result<(), Stop> 
             phase: 0,
             place,
         };
-        if let Some(item) = account.jobs().item(&task) {
+        if let Some(item) = jobs.item(&task) {
             sum = sum.wrapping_add(item.body.len);
         }
     }
@@ -126,25 +154,31 @@ pub fn look(account: &Account, row: &Row, out: &mut String) -> Result<(), Stop> 
 }
 
 // The first ready tasks.
-fn first_ready(alloc: Global, account: &Account, count: u64) -> Result<Vec<Task>, AllocError> {
+fn first_ready(alloc: Global, jobs: &Jobs<Body>, count: u64) -> Result<Vec<Task>, AllocError> {
     let mut tasks = Vec::new(alloc);
     for _ in 0..count.min(MOST_SKIPPED) {
-        if let Some(task) = account.jobs().next_ready(&tasks) {
+        if let Some(task) = jobs.next_ready(&tasks) {
             tasks.push(task)?;
         }
     }
     Ok(tasks)
 }
 
-/// `asked COUNT SKIPPED`: so often the first ready task behind the first ones. The numbers of their jobs, added up.
-pub fn ask(alloc: Global, account: &Account, row: &Row, out: &mut String) -> Result<(), Stop> {
-    let skip = first_ready(alloc, account, row.number(2)?)?;
+// The numbers of the jobs of so many first ready tasks but for these, added up.
+fn sum_ready(jobs: &Jobs<Body>, skip: &[Task], count: u64) -> u64 {
     let mut sum: u64 = 0;
-    for _ in 0..row.number(1)?.min(MOST) {
-        if let Some(task) = account.jobs().next_ready(&skip) {
+    for _ in 0..count {
+        if let Some(task) = jobs.next_ready(skip) {
             sum = sum.wrapping_add(task.job);
         }
     }
-    write!(out, "{sum}")?;
-    Ok(())
+    sum
+}
+
+/// `asked COUNT SKIPPED`: so often the first ready task behind the first ones. The numbers of their jobs, added up.
+pub fn ask(alloc: Global, jobs: &Jobs<Body>, row: &Row, out: &mut String) -> Result<(), Stop> {
+    let count = row.number(1)?.min(MOST);
+    let skip = first_ready(alloc, jobs, row.number(2)?)?;
+    let sum = sum_ready(jobs, &skip, count);
+    Ok(write!(out, "{sum}")?)
 }

@@ -3,7 +3,6 @@ ghost use Rattle.std.specs.Prelude.{◌≡◌, true, IfSome};
 ghost use Rattle.mt_model.specs.State.{job_at};
 ghost use Rattle.mt_model.specs.Tasks.{is_ready};
 
-use crate::account::Account;
 use crate::words::task_at;
 use mt_base::{NUMBERS_END, Text};
 use mt_jobs::Jobs;
@@ -68,12 +67,11 @@ fn put_ready(alloc: Global, jobs: &Jobs<Body>, task: Task, out: &mut String) -> 
 /// `order JOB PHASE PLACE`
 pub fn put_order(
     alloc: Global,
-    account: &Account,
+    jobs: &Jobs<Body>,
     row: &Row,
     out: &mut String,
 ) -> Result<(), Stop> {
     let task = task_at(row, 1)?;
-    let jobs = account.jobs();
     if jobs.is_ready(&task) {
         put_ready(alloc, jobs, task, out)
     } else {
@@ -81,17 +79,19 @@ pub fn put_order(
     }
 }
 
+fn put_len(len: Result<u64, AllocError>, out: &mut String) -> Result<(), AllocError> {
+    match len {
+        Ok(len) => write!(out, "{len} bytes"),
+        Err(AllocError) => out.push_str("too many bytes"),
+    }
+}
+
 /// `size JOB PHASE PLACE`: the number of items that a ready task reads, and their bytes.
-pub fn put_size(account: &Account, row: &Row, out: &mut String) -> Result<(), Stop> {
+pub fn put_size(jobs: &Jobs<Body>, row: &Row, out: &mut String) -> Result<(), Stop> {
     let task = task_at(row, 1)?;
-    let jobs = account.jobs();
     if !jobs.is_ready(&task) {
         return Ok(out.push_str("not ready")?);
     }
     write!(out, "{} items, ", jobs.read_count(&task))?;
-    match jobs.input_len(&task) {
-        Ok(len) => write!(out, "{len} bytes")?,
-        Err(AllocError) => out.push_str("too many bytes")?,
-    }
-    Ok(())
+    Ok(put_len(jobs.input_len(&task), out)?)
 }

@@ -6,7 +6,7 @@ use crate::words::{path_at, task_at, tasks};
 use mt_jobs::{JobStand, Jobs};
 use mt_rows::{Row, Stop, put_escaped};
 use mt_types::{Body, Entry, Item, Job, Outcome, Path, Sequence, Task, TraceEntry};
-use std::alloc::Global;
+use std::alloc::{AllocError, Global};
 
 /// So many items are shown at most.
 const MOST_ITEMS: usize = 1_000;
@@ -33,22 +33,27 @@ fn put_entry(found: Option<&Entry<Body>>, out: &mut String) -> Result<(), Stop> 
     Ok(())
 }
 
-fn put_at(alloc: Global, account: &Account, row: &Row, out: &mut String) -> Result<(), Stop> {
+/// `at PATH`
+pub fn put_at(alloc: Global, account: &Account, row: &Row, out: &mut String) -> Result<(), Stop> {
     let path = path_at(alloc, row, 1)?;
     put_entry(account.tree().get(&path), out)
 }
 
+fn put_task(task: Option<Task>, out: &mut String) -> Result<(), AllocError> {
+    match task {
+        Some(task) => write!(out, "{} {} {}", task.job, task.phase, task.place),
+        None => out.push('-'),
+    }
+}
+
 // The first ready task but for those of the row, and the first job that waits to be finished.
-fn put_ready(alloc: Global, account: &Account, row: &Row, out: &mut String) -> Result<(), Stop> {
+fn put_ready(alloc: Global, jobs: &Jobs<Body>, row: &Row, out: &mut String) -> Result<(), Stop> {
     let skip = tasks(alloc, row)?;
-    match account.jobs().next_ready(&skip) {
-        Some(task) => write!(out, "{} {} {}", task.job, task.phase, task.place)?,
-        None => out.push('-')?,
+    put_task(jobs.next_ready(&skip), out)?;
+    match jobs.waits_finish() {
+        Some(job) => Ok(write!(out, ", {job} waits")?),
+        None => Ok(()),
     }
-    if let Some(job) = account.jobs().waits_finish() {
-        write!(out, ", {job} waits")?;
-    }
-    Ok(())
 }
 
 fn put_item(alloc: Global, item: &Item<Body>, out: &mut String) -> Result<(), Stop> {
@@ -63,9 +68,9 @@ fn put_item(alloc: Global, item: &Item<Body>, out: &mut String) -> Result<(), St
 }
 
 // The item at the place of a task.
-fn put_one(alloc: Global, account: &Account, row: &Row, out: &mut String) -> Result<(), Stop> {
+fn put_one(alloc: Global, jobs: &Jobs<Body>, row: &Row, out: &mut String) -> Result<(), Stop> {
     let task = task_at(row, 1)?;
-    match account.jobs().item(&task) {
+    match jobs.item(&task) {
         Some(item) => put_item(alloc, item, out),
         None => Ok(out.push_str("none")?),
     }
@@ -95,19 +100,19 @@ fn put_all(alloc: Global, jobs: &Jobs<Body>, task: &Task, out: &mut String) -> R
     Err(Stop::NoSuchRow)
 }
 
-fn has_phase(account: &Account, task: &Task) -> bool {
-    match account.jobs().get(task.job) {
+fn has_phase(jobs: &Jobs<Body>, task: &Task) -> bool {
+    match jobs.get(task.job) {
         Some(job) => (task.phase as usize) < job.document.phases.len(),
         None => false,
     }
 }
 
-fn put_read(alloc: Global, account: &Account, row: &Row, out: &mut String) -> Result<(), Stop> {
+fn put_read(alloc: Global, jobs: &Jobs<Body>, row: &Row, out: &mut String) -> Result<(), Stop> {
     let task = task_at(row, 1)?;
-    if !has_phase(account, &task) {
+    if !has_phase(jobs, &task) {
         return Ok(out.push_str("none")?);
     }
-    put_all(alloc, account.jobs(), &task, out)
+    put_all(alloc, jobs, &task, out)
 }
 
 // How a job stands.
@@ -167,39 +172,44 @@ fn put_job(job: &Job<Body>, out: &mut String) -> Result<(), Stop> {
 }
 
 // The job of a number.
-fn put_found(account: &Account, row: &Row, out: &mut String) -> Result<(), Stop> {
-    match account.jobs().get(row.number(1)?) {
+fn put_found(jobs: &Jobs<Body>, row: &Row, out: &mut String) -> Result<(), Stop> {
+    match jobs.get(row.number(1)?) {
         Some(job) => put_job(job, out),
         None => Ok(out.push_str("none")?),
     }
 }
 
-// `page running|done FROM LIMIT`
-fn put_page(alloc: Global, account: &Account, row: &Row, out: &mut String) -> Result<(), Stop> {
-    let stand = match row.text(1)? {
-        "running" => JobStand::Running,
-        _ => JobStand::Done,
-    };
-    let limit = row.number(3)?.min(MOST_ITEMS as u64) as usize;
-    write!(out, "of {}:", account.jobs().count(stand))?;
-    for job in &account.jobs().page(alloc, stand, row.number(2)?, limit)? {
+fn put_numbers(jobs: &[&Job<Body>], out: &mut String) -> Result<(), AllocError> {
+    for job in jobs {
         write!(out, " {}", job.number)?;
     }
     Ok(())
 }
 
-/// The answer to a row that asks.
-pub fn answer(alloc: Global, account: &Account, row: &Row, out: &mut String) -> Result<(), Stop> {
+// `page running|done FROM LIMIT`
+fn put_page(alloc: Global, jobs: &Jobs<Body>, row: &Row, out: &mut String) -> Result<(), Stop> {
+    let stand = match row.text(1)? {
+        "running" => JobStand::Running,
+        _ => JobStand::Done,
+    };
+    let limit = row.number(3)?.min(MOST_ITEMS as u64) as usize;
+    let from = row.number(2)?;
+    write!(out, "of {}:", jobs.count(stand))?;
+    let page = jobs.page(alloc, stand, from, limit)?;
+    Ok(put_numbers(&page, out)?)
+}
+
+/// The answer to a row that asks jobs.
+pub fn answer(alloc: Global, jobs: &Jobs<Body>, row: &Row, out: &mut String) -> Result<(), Stop> {
     match row.text(0)? {
-        "job" => put_found(account, row, out),
-        "ready" => put_ready(alloc, account, row, out),
-        "item" => put_one(alloc, account, row, out),
-        "read" => put_read(alloc, account, row, out),
-        "size" => put_size(account, row, out),
-        "order" => put_order(alloc, account, row, out),
-        "page" => put_page(alloc, account, row, out),
-        "looked" => many::look(account, row, out),
-        "asked" => many::ask(alloc, account, row, out),
-        _ => put_at(alloc, account, row, out),
+        "job" => put_found(jobs, row, out),
+        "ready" => put_ready(alloc, jobs, row, out),
+        "item" => put_one(alloc, jobs, row, out),
+        "read" => put_read(alloc, jobs, row, out),
+        "size" => put_size(jobs, row, out),
+        "order" => put_order(alloc, jobs, row, out),
+        "page" => put_page(alloc, jobs, row, out),
+        "looked" => many::look(jobs, row, out),
+        _ => many::ask(alloc, jobs, row, out),
     }
 }

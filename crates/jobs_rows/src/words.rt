@@ -16,8 +16,8 @@ use std::alloc::{AllocError, Global};
 /// So many lines are posted at once at most.
 const MOST_LINES: u64 = 1_000_001;
 
-// A number that fits.
-fn narrow(number: u64) -> Result<u32, Stop> {
+/// A number that fits.
+pub fn narrow(number: u64) -> Result<u32, Stop> {
     if number < 1 << 32 {
         Ok(number as u32)
     } else {
@@ -26,16 +26,23 @@ fn narrow(number: u64) -> Result<u32, Stop> {
 }
 
 /// The path of a text.
-pub fn path_at(alloc: Global, row: &Row, place: usize) -> Result<Path, Stop>
+pub fn path_of(alloc: Global, text: &[u8]) -> Result<Path, Stop>
     ensures { IfOk result IsPath }
 {
-    match Path::plain(alloc, "l", row.bytes(place)?) {
+    match Path::plain(alloc, "l", text) {
         Ok(path) => {
             let _key = path.key();
             Ok(path)
         }
         Err(_) => Err(Stop::NoSuchRow),
     }
+}
+
+/// The path of a word.
+pub fn path_at(alloc: Global, row: &Row, place: usize) -> Result<Path, Stop>
+    ensures { IfOk result IsPath }
+{
+    path_of(alloc, row.bytes(place)?)
 }
 
 /// The task that three words from a place on name.
@@ -134,31 +141,49 @@ fn reducer(row: &Row, word: usize) -> Result<Option<u32>, Stop> {
     Ok(Some(narrow(row.number(word)?)?))
 }
 
-// The record that four words from a place on name: `emit PLACE REDUCER LENGTH`, `keep PLACE - LENGTH`, `ref NAME - -`.
+// `emit PLACE REDUCER LENGTH`
+fn emit(alloc: Global, row: &Row, word: usize) -> Result<TaskRecord<Body>, Stop>
+    requires { word < 1000000 }
+    ensures { IfOk result IsWellMadeRecord }
+{
+    let body = body(row.number(word + 3)?);
+    let reducer = reducer(row, word + 2)?;
+    let place = place(alloc, row, word + 1)?;
+    Ok(TaskRecord::Emit {
+        place,
+        reducer,
+        body,
+    })
+}
+
+// `keep PLACE - LENGTH`
+fn keep(alloc: Global, row: &Row, word: usize) -> Result<TaskRecord<Body>, Stop>
+    requires { word < 1000000 }
+    ensures { IfOk result IsWellMadeRecord }
+{
+    let body = body(row.number(word + 3)?);
+    let place = path_at(alloc, row, word + 1)?;
+    Ok(TaskRecord::Keep { place, body })
+}
+
+// `ref NAME - -`
+fn refer(alloc: Global, row: &Row, word: usize) -> Result<TaskRecord<Body>, Stop>
+    requires { word < 1000000 }
+    ensures { IfOk result IsWellMadeRecord }
+{
+    let name = path_at(alloc, row, word + 1)?;
+    Ok(TaskRecord::Ref { name })
+}
+
+// The record that four words from a place on name.
 fn record(alloc: Global, row: &Row, word: usize) -> Result<TaskRecord<Body>, Stop>
     requires { word < 1000000 }
     ensures { IfOk result IsWellMadeRecord }
 {
     match row.text(word)? {
-        "emit" => {
-            let body = body(row.number(word + 3)?);
-            let reducer = reducer(row, word + 2)?;
-            Ok(TaskRecord::Emit {
-                place: place(alloc, row, word + 1)?,
-                reducer,
-                body,
-            })
-        }
-        "keep" => {
-            let body = body(row.number(word + 3)?);
-            Ok(TaskRecord::Keep {
-                place: path_at(alloc, row, word + 1)?,
-                body,
-            })
-        }
-        "ref" => Ok(TaskRecord::Ref {
-            name: path_at(alloc, row, word + 1)?,
-        }),
+        "emit" => emit(alloc, row, word),
+        "keep" => keep(alloc, row, word),
+        "ref" => refer(alloc, row, word),
         _ => Err(Stop::NoSuchRow),
     }
 }
@@ -200,9 +225,11 @@ pub fn outputs(alloc: Global, count: usize) -> Result<Fate<Body>, Stop>
 pub fn bad(alloc: Global, row: &Row) -> Result<Fate<Body>, Stop>
     ensures { IfOk result IsWellMadeFate }
 {
+    let status = narrow(row.number(4)?)?;
+    let stderr = Bytes::from_slice(alloc, b"")?;
     Ok(Fate::Bad {
         failure: TaskFailure::UserTaskError,
-        status: narrow(row.number(4)?)?,
-        stderr: Bytes::from_slice(alloc, b"")?,
+        status,
+        stderr,
     })
 }

@@ -1,5 +1,5 @@
 //! The disk that reads ahead: what it reads, it reads in pieces of a window, and all else goes through.
-ghost use Rattle.std.specs.Prelude.{◌≡◌, ◌≤◌, ◌+◌, ◌-◌, true, false, min, length, take, drop, slice_range, OnOk};
+ghost use Rattle.std.specs.Prelude.{◌≡◌, ◌≢◌, ◌⊎◌, ◌↔◌, ◌≤◌, ◌+◌, ◌-◌, IsTrue, false, min, length, take, drop, slice_range, OnOk};
 ghost use Rattle.std.specs.Option.{ForSome};
 ghost use Rattle.mt_base.specs.Counts.{HasCause};
 ghost use Rattle.mt_disk.specs.Files.{contents};
@@ -7,22 +7,36 @@ ghost use Rattle.mt_disk.specs.CrashModel.{OnlyRead};
 
 use mt_disk::{Disk, DiskFault, FileNo};
 
+/// What is known of a file: it has `end` bytes, and `held` of them, from a place on, are in memory.
+#[derive(Clone, Copy)]
+struct Window {
+    end: u64,
+    at: u64,
+    held: usize,
+}
+
+/// Nothing is known.
+const NONE: Window = Window {
+    end: 0,
+    at: 0,
+    held: 0,
+};
+
 /// A disk over one that is lent. Of one of its files it keeps the bytes that stand behind a small read in memory, and gives them to the
-/// reads that follow; it makes no other call of the disk for these. It is the lent disk in all else.
+/// reads that follow; it makes no other call of the disk for these, until this file is written or cut, or another one with a fault. It is
+/// the lent disk in all else.
 #[derive(Drop)]
 pub struct ReadAhead<'a, D: Disk> {
     disk: &'a mut D,
     file: FileNo,
-    end: u64,
-    at: u64,
-    held: usize,
+    window: Window,
     piece: &'a mut [u8],
-    ghost within: { held ≤ length piece.now },
-    ghost inside: { at + held ≤ end },
+    ghost within: { window.held ≤ length piece.now },
+    ghost inside: { window.at + window.held ≤ window.end },
     // Where the disk tells what it holds, the file has so many bytes,
-    ghost known: { ForSome (D.seen disk.now) (λ files. end ≤ length (contents files file)) },
+    ghost known: { ForSome (D.seen disk.now) (λ files. window.end ≤ length (contents files file)) },
     // and those that are held are the file's.
-    ghost window: { ForSome (D.seen disk.now) (λ files. take held piece.now ≡ take held (drop at (contents files file))) },
+    ghost same: { ForSome (D.seen disk.now) (λ files. take window.held piece.now ≡ take window.held (drop window.at (contents files file))) },
 }
 
 // Reads the bytes of a file from a place on to the front of a piece.
@@ -62,55 +76,65 @@ impl<'a, D: Disk> ReadAhead<'a, D> {
         ReadAhead {
             disk,
             file,
-            end,
-            at: 0,
-            held: 0,
+            window: Window {
+                end,
+                at: 0,
+                held: 0,
+            },
             piece,
         }
     }
 
     // Whether a read goes through as it is: of another file, of many bytes, or past those that are known to be there.
     fn passes(&self, file: FileNo, at: u64, count: usize) -> bool
-        ensures { result ≡ false → (file ≡ self.now.file) × (count ≤ length self.now.piece.now) × (at + count ≤ self.now.end) }
+        ensures { result ≡ false → (file ≡ self.now.file) × (count ≤ length self.now.piece.now) × (at + count ≤ self.now.window.end) }
     {
         file != self.file
             || count >= self.piece.len()
-            || at > self.end
-            || self.end - at < count as u64
+            || at > self.window.end
+            || self.window.end - at < count as u64
     }
 
     // Whether so many bytes from a place on are held.
     fn holds(&self, at: u64, count: usize) -> bool
-        ensures { result ≡ true → (self.now.at ≤ at) × (at + count ≤ self.now.at + self.now.held) }
+        ensures { IsTrue result ↔ ((self.now.window.at ≤ at) × (at + count ≤ self.now.window.at + self.now.window.held)) }
     {
-        at >= self.at
-            && at - self.at <= self.held as u64
-            && self.held as u64 - (at - self.at) >= count as u64
+        let from = self.window.at;
+        let held = self.window.held as u64;
+        at >= from && at - from <= held && held - (at - from) >= count as u64
+    }
+
+    // What is known still of the file once one was written or cut.
+    fn kept_over(&self, file: FileNo) -> Window
+        ensures { ((file ≡ self.now.file) × (result ≡ record { end = 0; at = 0; held = 0 })) ⊎ ((file ≢ self.now.file) × (result ≡ self.now.window)) }
+    {
+        if file == self.file { NONE } else { self.window }
     }
 
     // Reads the window anew from a place on, by one call of the disk. After a fault it holds nothing.
     fn refill(&mut self, at: u64) -> Result<(), DiskFault>
-        requires { at ≤ self.old.end }
-        ensures filled { OnOk result ((self.new.at ≡ at) × (self.new.held ≡ min (self.old.end - at) (length self.old.piece.now))) }
+        requires { at ≤ self.old.window.end }
+        ensures filled { OnOk result ((self.new.window.at ≡ at) × (self.new.window.held ≡ min (self.old.window.end - at) (length self.old.piece.now))) }
         ensures file { self.new.file ≡ self.old.file }
         ensures same_reference { self.new.disk.ghost_name ≡ self.old.disk.ghost_name }
         ensures read { OnlyRead D.seen D.may_leave D.moment D.left_since self.old.disk.now self.new.disk.now }
         ensures cause { HasCause (D.faults self.old.disk.now) (D.faults self.new.disk.now) result }
         ensures stays { D.stays self.old.disk.now self.new.disk.now }
     {
-        let count = (self.end - at).min(self.piece.len() as u64) as usize;
-        self.held = 0;
+        let count = (self.window.end - at).min(self.piece.len() as u64) as usize;
+        self.window.held = 0;
         read_front(self.disk, self.file, at, count, self.piece)?;
-        self.at = at;
-        self.held = count;
+        self.window.at = at;
+        self.window.held = count;
         Ok(())
     }
 
-    // Has so many bytes from a place on in the window.
+    // Has so many bytes from a place on in the window. Where they are in it, no call is made.
     fn bring(&mut self, at: u64, count: usize) -> Result<(), DiskFault>
         requires few { count ≤ length self.old.piece.now }
-        requires there { at + count ≤ self.old.end }
-        ensures held { OnOk result ((self.new.at ≤ at) × (at + count ≤ self.new.at + self.new.held)) }
+        requires there { at + count ≤ self.old.window.end }
+        ensures held { OnOk result ((self.new.window.at ≤ at) × (at + count ≤ self.new.window.at + self.new.window.held)) }
+        ensures idle { self.old.window.at ≤ at → at + count ≤ self.old.window.at + self.old.window.held → self.new ≡ self.old }
         ensures file { self.new.file ≡ self.old.file }
         ensures same_reference { self.new.disk.ghost_name ≡ self.old.disk.ghost_name }
         ensures read { OnlyRead D.seen D.may_leave D.moment D.left_since self.old.disk.now self.new.disk.now }
@@ -126,11 +150,11 @@ impl<'a, D: Disk> ReadAhead<'a, D> {
 
     // Fills the piece from the window. It makes no call of the disk.
     fn copy_held(&self, at: u64, into: &mut [u8])
-        requires from { self.now.at ≤ at }
-        requires within { at + length into.old ≤ self.now.at + self.now.held }
+        requires from { self.now.window.at ≤ at }
+        requires within { at + length into.old ≤ self.now.window.at + self.now.window.held }
         ensures { ForSome (D.seen self.now.disk.now) (λ files. into.new ≡ slice_range (contents files self.now.file) at (at + length into.old)) }
     {
-        let from = (at - self.at) as usize;
+        let from = (at - self.window.at) as usize;
         copy_part(self.piece, from, into);
     }
 }
@@ -167,17 +191,19 @@ impl<D: Disk> Disk for ReadAhead<'_, D> {
     }
 
     fn write_at(&mut self, file: FileNo, at: u64, piece: &[u8]) -> Result<(), DiskFault> {
-        self.end = 0;
-        self.at = 0;
-        self.held = 0;
-        self.disk.write_at(file, at, piece)
+        let kept = self.kept_over(file);
+        self.window = NONE;
+        self.disk.write_at(file, at, piece)?;
+        self.window = kept;
+        Ok(())
     }
 
     fn cut(&mut self, file: FileNo, to: u64) -> Result<(), DiskFault> {
-        self.end = 0;
-        self.at = 0;
-        self.held = 0;
-        self.disk.cut(file, to)
+        let kept = self.kept_over(file);
+        self.window = NONE;
+        self.disk.cut(file, to)?;
+        self.window = kept;
+        Ok(())
     }
 
     fn sync(&mut self, file: FileNo) -> Result<(), DiskFault> {

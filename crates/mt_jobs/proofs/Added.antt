@@ -1,5 +1,5 @@
 -- A new job: its folders are new, and so is its number.
-use Rattle.std.proofs.Common.{Bool, List, None, Option, Some, [], ap, append-nil, arith, bytes_eq, codes, cond, false, length, map, not, refl, subst, sym, true, true≢false, ℕ, ◌*◌, ◌++◌, ◌+◌, ◌<◌, ◌==◌, ◌^◌, ◌∙◌, ◌∷◌, ◌≡◌}
+use Rattle.std.proofs.Common.{Bool, List, None, Option, Some, [], ap, append-nil, arith, bytes_eq, cond, false, length, not, refl, subst, sym, true, true≢false, ℕ, ◌++◌, ◌<◌, ◌^◌, ◌∙◌, ◌∷◌, ◌≡◌}
 use Rattle.std.specs.Prelude.{All, is_some}
 use Rattle.std.specs.List.{filter, find}
 use Rattle.std.specs.List.Sorted.{IsStrictlySortedBy}
@@ -16,7 +16,7 @@ use Rattle.mt_types.specs.declared.object.Entry.{Entry}
 use Rattle.mt_types.specs.declared.object.Entry.TheVariants as entry
 use Rattle.mt_types.specs.declared.refusal.Refusal.TheVariants.{EntityExists}
 use Rattle.mt_model.specs.JobSteps.{new_job}
-use Rattle.mt_model.specs.Lawful.{IsBelow, LawfulJob, LawfulJobs, LawfulRows, fits_below, job_named}
+use Rattle.mt_model.specs.Lawful.{IsBelow, LawfulJob, LawfulJobs, fits_below, job_named}
 use Rattle.mt_model.specs.Names.{job_folder, job_name, job_stor, number_at}
 use Rattle.mt_model.specs.Rows.{Rows, above_refusal, at, directory_refusal, first_refusal, is_path, make_directory_refusal, parent_refusal, refuse_if, with_row}
 use Rattle.mt_model.specs.Tasks.{is_running}

@@ -1,10 +1,9 @@
 -- The archive of a job can be put into its folder.
-use Rattle.std.proofs.Common.{◌≡◌, ℕ, ◌+◌, ◌<◌, ◌^◌, Bool, true, false, cond, not, ◌&&◌, ◌||◌, List, [], ◌∷◌, length, Option, Some, None, refl, sym, ap, subst, ◌∙◌, arith, true≢false, codes, bytes_eq}
+use Rattle.std.proofs.Common.{◌≡◌, ℕ, ◌<◌, ◌^◌, Bool, true, false, cond, not, ◌&&◌, ◌||◌, List, [], ◌∷◌, length, Option, Some, None, refl, sym, ap, subst, ◌∙◌, arith, codes, bytes_eq}
 use Rattle.std.specs.Prelude.{IsTrue, is_some}
 use Rattle.std.specs.List.{AllByRecursion, list_any}
 use Rattle.std.proofs.lemmas.Slice.Eq.{bytes_eq-Decides}
 use Rattle.mt_path.specs.AccountPath.{AccountPath}
-use Rattle.mt_path.specs.declared.area.Area.TheVariants.{Jobs}
 use Rattle.mt_types.specs.declared.job.Job.{Job}
 use Rattle.mt_types.specs.declared.limits.TheConstants.{MOST_COMMANDS}
 use Rattle.mt_types.specs.declared.object.Entry.{Entry}
@@ -14,7 +13,7 @@ use Rattle.mt_types.specs.declared.refusal.Refusal.TheVariants.{RootDirectory, D
 use Rattle.mt_model.specs.JobSteps.{archive_names}
 use Rattle.mt_model.specs.Lawful.{HasFolders, LawfulJob, LawfulJobs, LawfulRows, fits_below, fits_in_folder, is_archive_name, job_named}
 use Rattle.mt_model.specs.Names.{in_job_folder, job_folder, job_name}
-use Rattle.mt_model.specs.Rows.{Rows, IsTree, above_refusal, at, directory_refusal, first_refusal, is_directory, is_path, object_in, parent_refusal, put_refusal, refuse_if, with_row}
+use Rattle.mt_model.specs.Rows.{Rows, above_refusal, at, directory_refusal, first_refusal, is_directory, is_path, parent_refusal, put_refusal, refuse_if, with_row}
 use Rattle.mt_model.specs.State.{job_at}
 use Rattle.mt_model.proofs.Children.{parent-above}
 use Rattle.mt_model.proofs.LawfulClose.{job_in, named, no_stor, number}

@@ -2,7 +2,6 @@
 use Rattle.std.proofs.Common.{◌≡◌, ℕ, ◌+◌, ◌==◌, Bool, true, false, cond, List, [], ◌∷◌, refl, sym, ap, ◌∙◌, arith, zero, suc}
 use Rattle.std.proofs.lemmas.List.Sums.{sum_by-append}
 use Rattle.mt_types.specs.declared.document.InputLine.{InputLine}
-use Rattle.mt_model.specs.Resolve.{is_object_at}
 use Rattle.mt_model.specs.Rows.{Rows}
 use Rattle.mt_sched.specs.Plan.{Plan}
 use Rattle.mt_sched.specs.PlanOfJob.{inputs_in, is_input}

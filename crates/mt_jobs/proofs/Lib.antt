@@ -15,3 +15,6 @@ pub mod Allowed
 pub mod Roots
 pub mod Committed
 pub mod Sums
+pub mod Lasts
+pub mod Heads
+pub mod Followed

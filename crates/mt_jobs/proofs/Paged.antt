@@ -1,5 +1,5 @@
 -- A page of jobs, found one by one by their numbers.
-use Rattle.std.proofs.Common.{◌≡◌, ℕ, ◌+◌, ◌<◌, ◌==◌, Bool, true, false, cond, nat_le, List, [], ◌∷◌, ◌++◌, map, take, Option, Some, None, refl, sym, ap, ◌∙◌, eq-eqb}
+use Rattle.std.proofs.Common.{◌≡◌, ℕ, ◌==◌, false, cond, nat_le, List, [], ◌∷◌, take, Some, refl, sym, ap, ◌∙◌, eq-eqb}
 use Rattle.std.specs.Prelude.{All}
 use Rattle.std.specs.List.{AllByRecursion, cons_option, filter, filter_map}
 use Rattle.std.specs.List.Sorted.{IsStrictlySortedBy}

@@ -1,20 +1,16 @@
 -- The plan of a job after a commit and after the end of its input, and what a ready task says of its job.
-use Rattle.std.proofs.Common.{◌≡◌, ℕ, ◌+◌, ◌<◌, ◌≤◌, ◌==◌, Bool, true, false, not, cond, ◌&&◌, List, [], ◌∷◌, length, Option, Some, None, refl, sym, ap, ◌∙◌, arith}
-use Rattle.std.specs.List.{slice_get}
+use Rattle.std.proofs.Common.{◌≡◌, ℕ, ◌+◌, ◌==◌, Bool, true, false, not, cond, List, [], ◌∷◌, length, Some, None, refl, sym, ap, ◌∙◌}
 use Rattle.std.specs.Option.{option_map}
 use Rattle.std.specs.BTreeMap.{is_at}
 use Rattle.std.specs.Ordering.{nat_cmp}
-use Rattle.std.proofs.lemmas.Option.{slice_get_within}
-use Rattle.mt_types.specs.WellMade.{IsDocument}
-use Rattle.mt_types.specs.declared.document.Phase.{Phase}
 use Rattle.mt_types.specs.declared.job.Job.{Job}
 use Rattle.mt_types.specs.declared.job.TraceEntry.{TraceEntry}
 use Rattle.mt_model.specs.Feed.{items_of}
 use Rattle.mt_model.specs.JobSteps.{commit_refusal, with_end, with_entry}
 use Rattle.mt_model.specs.Sound.{Sound}
-use Rattle.mt_model.specs.Tasks.{is_committed, is_ready, is_running, is_task, is_task_of, may_run}
+use Rattle.mt_model.specs.Tasks.{is_committed, is_ready, may_run}
 use Rattle.mt_model.proofs.Entry.{holds_if}
-use Rattle.mt_model.proofs.LawfulInputs.{and_both, and_left, and_right}
+use Rattle.mt_model.proofs.LawfulInputs.{and_both}
 use Rattle.mt_model.proofs.RowLaws.{neither, not_refused}
 use Rattle.mt_sched.specs.Plans.{plan_at}
 use Rattle.mt_sched.specs.Plan.{Plan}

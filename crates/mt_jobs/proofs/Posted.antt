@@ -1,19 +1,16 @@
 -- Posted lines leave all of a job but its inputs and missing lines.
-use Rattle.std.proofs.Common.{◌≡◌, ℕ, ◌+◌, Bool, true, false, cond, List, [], ◌∷◌, ◌++◌, length, map, drop, get_or, ◌<◌, ◌≤◌, Option, Some, None, refl, sym, ap, subst, ◌∙◌, is_some, not}
-use Rattle.std.specs.List.{count_by, slice_get}
+use Rattle.std.proofs.Common.{◌≡◌, false, List, [], ◌∷◌, length, map, Option, Some, None, refl, sym, ap, ◌∙◌}
+use Rattle.std.specs.List.{slice_get}
 use Rattle.mt_path.specs.AccountPath.{AccountPath}
 use Rattle.mt_types.specs.declared.document.InputLine.{InputLine}
 use Rattle.mt_types.specs.declared.document.InputLine.TheVariants.{Named, Other}
 use Rattle.mt_types.specs.declared.document.JobDocument.{JobDocument}
-use Rattle.mt_types.specs.declared.document.Phase.{Phase}
 use Rattle.mt_types.specs.declared.job.Job.{Job}
-use Rattle.mt_types.specs.declared.job.TraceEntry.{TraceEntry}
 use Rattle.mt_types.specs.declared.object.Object.{Object}
 use Rattle.mt_model.specs.JobSteps.{with_line, with_lines, with_named}
 use Rattle.mt_model.specs.Rows.{Rows, object_at}
-use Rattle.mt_model.specs.Tasks.{is_running}
 use Rattle.mt_feeds.specs.declared.kept.FedJob.{FedJob}
-use Rattle.mt_feeds.specs.FedJob.{AreFeeds, AreShares, IsKept, index_of, lists_of, shares_of}
+use Rattle.mt_feeds.specs.FedJob.{IsKept, index_of, lists_of}
 use Rattle.mt_feeds.proofs.Opened.{none_before}
 
 module _ {B : Type 0} where

@@ -1,5 +1,5 @@
 -- What the names of a task's outputs begin with, by the kind of its phase.
-use Rattle.std.proofs.Common.{◌≡◌, ℕ, List, [], Option, Some, None, sym, ap, ◌∙◌}
+use Rattle.std.proofs.Common.{◌≡◌, ℕ, [], Option, Some, None, sym, ap, ◌∙◌}
 use Rattle.std.specs.List.{slice_get}
 use Rattle.std.specs.Option.{option_and_then, option_map, unwrap_or}
 use Rattle.mt_types.specs.declared.document.Phase.{Phase}

@@ -1,5 +1,5 @@
 -- What each command on jobs makes of a state, part by part.
-use Rattle.std.proofs.Common.{◌≡◌, ℕ, ◌+◌, Bool, true, false, cond, List, [], ◌∷◌, ◌++◌, Option, Some, None, refl, sym, ap, ◌∙◌}
+use Rattle.std.proofs.Common.{◌≡◌, ℕ, Bool, true, false, List, [], ◌∷◌, ◌++◌, Some, sym, ap, ◌∙◌}
 use Rattle.mt_types.specs.declared.command.Archive.{Archive}
 use Rattle.mt_types.specs.declared.command.Command.TheVariants.{NewJob, AddInputs, EndInput, Commit, Finish, Cancel, Close}
 use Rattle.mt_types.specs.declared.document.InputLine.{InputLine}
@@ -12,7 +12,7 @@ use Rattle.mt_model.specs.JobSteps.{archive_bodies, archive_names, commit, done_
 use Rattle.mt_model.specs.Names.{number_at}
 use Rattle.mt_model.specs.Resolve.{resolve}
 use Rattle.mt_model.specs.Rows.{Rows}
-use Rattle.mt_model.specs.State.{State, job_at, with_job}
+use Rattle.mt_model.specs.State.{job_at, with_job}
 use Rattle.mt_resolve.specs.Committing.{committing_of}
 use Rattle.mt_jobs.specs.Shown.{state_of}
 

@@ -1,13 +1,13 @@
 -- The tests of a job are those of its queue, while it runs.
 use Rattle.std.proofs.Common.{◌≡◌, ℕ, Bool, true, false, not, cond, ◌&&◌, Option, Some, None, Result, Ok, Err, refl, sym, ap, ◌∙◌}
-use Rattle.std.specs.Prelude.{if◌then◌else◌, is_some}
+use Rattle.std.specs.Prelude.{is_some}
 use Rattle.mt_types.specs.declared.job.Job.{Job}
 use Rattle.mt_types.specs.declared.refusal.Refusal.{Refusal}
 use Rattle.mt_types.specs.declared.refusal.Refusal.TheVariants.{JobNotFound, JobState, NotATask, AlreadyCommitted, NotComplete}
 use Rattle.mt_model.specs.JobSteps.{close_refusal, commit_refusal, finish_refusal, job_refusal, running_refusal}
 use Rattle.mt_model.specs.Rows.{first_refusal, refuse_if}
 use Rattle.mt_model.specs.Tasks.{is_committed, is_running, is_task, waits_finish}
-use Rattle.mt_sched.specs.Plan.{Plan, is_committed_in, is_task_in, waits_in}
+use Rattle.mt_sched.specs.Plan.{Plan, is_committed_in}
 use Rattle.mt_sched.specs.PlanOfJob.{plan_of}
 use Rattle.mt_sched.proofs.Plain.{committed_plain, task_plain, waits_plain}
 use Rattle.mt_tree.specs.Answer.{answer}

@@ -4,3 +4,4 @@ pub mod Archive
 pub mod Committed
 pub mod Queues
 pub mod Pages
+pub mod Listed

@@ -1,5 +1,5 @@
 -- The jobs that run, and those that are done.
-use Rattle.std.specs.Prelude.{ℕ, Bool, not, nat_le, List, map, take}
+use Rattle.std.specs.Prelude.{ℕ, Bool, not, nat_le, List, take}
 use Rattle.std.specs.List.{filter}
 use Rattle.mt_types.specs.declared.job.Job.{Job}
 use Rattle.mt_model.specs.Tasks.{is_running}

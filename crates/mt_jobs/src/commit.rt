@@ -41,7 +41,12 @@ fn task_root<B>(alloc: Global, kept: &FedJob<B>, phase: u32, place: u64) -> Resu
 }
 
 // Feeds so many items more to a phase of a job.
-fn feed_all(sched: &mut Sched, job: u64, phase: u32, count: usize) -> Result<(), AllocError>
+pub(crate) fn feed_all(
+    sched: &mut Sched,
+    job: u64,
+    phase: u32,
+    count: usize,
+) -> Result<(), AllocError>
     ensures { OnOk result (sched.new ≡ with_plan sched.old job (λ plan. grown plan phase count)) }
 {
     for _item in 0..count {
@@ -51,7 +56,7 @@ fn feed_all(sched: &mut Sched, job: u64, phase: u32, count: usize) -> Result<(),
 }
 
 // A task of a job is committed with this entry: in its trace, in its queue and in what is kept beside it.
-fn enter<B: Drop>(
+pub(crate) fn enter<B: Drop>(
     alloc: Global,
     kept: &mut FedJob<B>,
     sched: &mut Sched,

@@ -132,7 +132,12 @@ impl<B> Jobs<B> {
     ghost use Rattle.mt_jobs.specs.Shown.{state_of};
 
     // The job of a number is done.
-    fn end_as(&mut self, job: u64, cancelled: bool, moment: u64) -> Result<(), AllocError>
+    pub(crate) fn end_as(
+        &mut self,
+        job: u64,
+        cancelled: bool,
+        moment: u64,
+    ) -> Result<(), AllocError>
         ensures ok { OnOk result (self.new ≡ with_job self.old job (done_at moment cancelled)) }
         ensures err { OnErr result (self.new ≡ self.old) }
     {

@@ -1,6 +1,7 @@
 //! The jobs of an account beside its tree, with what is kept of each.
 //!
 //! - `jobs`: the type, and a job by its number. `refusals`: the tests of commands. `making`, `inputs`, `ends`, `commit`: the changes.
+//! - `listed`: jobs taken from a list, in place of commands.
 //! - `reading`: what a task reads, and what may run. `pages`: the jobs that run, and those that are done.
 #![tactic(auto)]
 
@@ -8,6 +9,7 @@ mod commit;
 mod ends;
 mod inputs;
 mod jobs;
+mod listed;
 mod making;
 mod pages;
 mod reading;

@@ -27,7 +27,7 @@ use std::collections::BTreeSet;
 const MOST_ASSET_BYTES: u64 = 16_777_216;
 
 // Whether an asset of a phase is no object.
-fn lacks_asset<B>(tree: &Tree<B>, phase: &Phase) -> bool
+fn phase_lacks_asset<B>(tree: &Tree<B>, phase: &Phase) -> bool
     ensures { result ≡ lacks_asset tree.now phase.now }
 {
     for name in phase.assets.as_slice() {
@@ -39,11 +39,11 @@ fn lacks_asset<B>(tree: &Tree<B>, phase: &Phase) -> bool
 }
 
 // Whether an asset of one of these phases is no object.
-fn lack_assets<B>(tree: &Tree<B>, phases: &[Phase]) -> bool
+fn document_lacks_asset<B>(tree: &Tree<B>, phases: &[Phase]) -> bool
     ensures { result ≡ list_any (lacks_asset tree.now) phases.now }
 {
     for phase in phases {
-        if lacks_asset(tree, phase) {
+        if phase_lacks_asset(tree, phase) {
             return true;
         }
     }
@@ -51,7 +51,7 @@ fn lack_assets<B>(tree: &Tree<B>, phases: &[Phase]) -> bool
 }
 
 // Whether the assets of a phase have too many bytes.
-fn has_large_assets(tree: &Tree<Body>, phase: &Phase) -> bool
+fn phase_has_large_assets(tree: &Tree<Body>, phase: &Phase) -> bool
     ensures { result ≡ has_large_assets (λ b. b.len) tree.now phase.now }
 {
     let mut total: u64 = 0;
@@ -67,11 +67,11 @@ fn has_large_assets(tree: &Tree<Body>, phase: &Phase) -> bool
 }
 
 // Whether those of one of these phases have.
-fn have_large_assets(tree: &Tree<Body>, phases: &[Phase]) -> bool
+fn document_has_large_assets(tree: &Tree<Body>, phases: &[Phase]) -> bool
     ensures { result ≡ list_any (has_large_assets (λ b. b.len) tree.now) phases.now }
 {
     for phase in phases {
-        if has_large_assets(tree, phase) {
+        if phase_has_large_assets(tree, phase) {
             return true;
         }
     }
@@ -83,17 +83,17 @@ fn have_large_assets(tree: &Tree<Body>, phases: &[Phase]) -> bool
 pub fn may_make_job(tree: &Tree<Body>, document: &JobDocument) -> Result<(), Refusal>
     ensures { result ≡ answer (new_job_refusal (λ b. b.len) tree.now document.now) }
 {
-    if lack_assets(tree, document.phases.as_slice()) {
+    if document_lacks_asset(tree, document.phases.as_slice()) {
         return Err(Refusal::NotFound);
     }
-    if have_large_assets(tree, document.phases.as_slice()) {
+    if document_has_large_assets(tree, document.phases.as_slice()) {
         return Err(Refusal::AssetsTooLarge);
     }
     Ok(())
 }
 
 // The bodies that the assets of a phase hold.
-fn bodies_of<B: Duplicate>(
+fn phase_bodies<B: Duplicate>(
     alloc: Global,
     tree: &Tree<B>,
     phase: &Phase,
@@ -110,7 +110,7 @@ fn bodies_of<B: Duplicate>(
 }
 
 // Those of each phase.
-fn all_bodies<B: Duplicate>(
+fn document_bodies<B: Duplicate>(
     alloc: Global,
     tree: &Tree<B>,
     phases: &[Phase],
@@ -119,7 +119,7 @@ fn all_bodies<B: Duplicate>(
 {
     let mut all = Vec::new(alloc);
     for phase in phases {
-        all.push(bodies_of(alloc, tree, phase)?)?;
+        all.push(phase_bodies(alloc, tree, phase)?)?;
     }
     Ok(Sequence::from_vec(all))
 }
@@ -134,7 +134,7 @@ fn new_job<B: Duplicate>(
 ) -> Result<Job<B>, AllocError>
     ensures { IfOk result (λ j. j ≡ new_job tree.now number document moment) }
 {
-    let assets = all_bodies(alloc, tree, document.phases.as_slice())?;
+    let assets = document_bodies(alloc, tree, document.phases.as_slice())?;
     Ok(Job {
         number,
         document,
@@ -167,7 +167,7 @@ fn make_folders<B: Drop>(
 }
 
 // Adds a job behind the others, with its queue.
-fn push_job<B: Drop>(
+pub(crate) fn push_job<B: Drop>(
     alloc: Global,
     jobs: &mut Vec<FedJob<B>>,
     sched: &mut Sched,

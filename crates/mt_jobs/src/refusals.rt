@@ -23,7 +23,7 @@ fn input_test<B>(job: &Job<B>) -> Result<(), Refusal>
 }
 
 // Whether so many of each together are too many.
-fn are_too_many(inputs: usize, missing: usize, lines: usize) -> bool
+pub(crate) fn are_too_many(inputs: usize, missing: usize, lines: usize) -> bool
     ensures { result ≡ nat_lt 1000000 (inputs + missing + lines) }
 {
     if inputs > MOST_INPUTS || missing > MOST_INPUTS || lines > MOST_INPUTS {

@@ -16,20 +16,34 @@ use std::process::ExitCode;
 use words::{Load, work_of};
 use work::Bench;
 
-// Does what each line of standard input asks for, and prints what it found, so that a script sees where each work ends.
-fn run(rt: &HostRuntime) -> Result<(), Fault> {
-    let alloc = rt.alloc();
-    let mut bench = Bench::new(alloc, Load::read(&words_of(rt, alloc)?)?)?;
-    for line in rt.lines(alloc) {
-        let Ok(line) = line else {
-            return Err(Fault::Input);
-        };
-        let found = bench.do_work(alloc, work_of(line.as_str())?)?;
-        if println!(rt; "{line}: {found}").is_err() {
-            return Err(Fault::Output);
+// Does what a line asks for, and prints what it found.
+fn do_line(rt: &HostRuntime, bench: &mut Bench, line: &str) -> Result<(), Fault> {
+    let found = bench.do_work(rt.alloc(), work_of(line)?)?;
+    match println!(rt; "{line}: {found}") {
+        Ok(()) => Ok(()),
+        Err(_) => Err(Fault::Output),
+    }
+}
+
+// Does what each line of standard input asks for, so that a script sees where each work ends.
+fn do_lines(rt: &HostRuntime, bench: &mut Bench) -> Result<(), Fault> {
+    for line in rt.lines(rt.alloc()) {
+        match line {
+            Ok(line) => do_line(rt, bench, line.as_str())?,
+            Err(_) => return Err(Fault::Input),
         }
     }
     Ok(())
+}
+
+// The load that the words of the program ask for.
+fn load_of(rt: &HostRuntime) -> Result<Load, Fault> {
+    Load::read(&words_of(rt, rt.alloc())?)
+}
+
+fn run(rt: &HostRuntime) -> Result<(), Fault> {
+    let mut bench = Bench::new(rt.alloc(), load_of(rt)?)?;
+    do_lines(rt, &mut bench)
 }
 
 fn main(rt: HostRuntime) -> ExitCode {

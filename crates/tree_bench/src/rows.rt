@@ -59,16 +59,32 @@ fn make(tree: &mut Tree<Body>, path: Path) -> Result<(), Fault> {
     }
 }
 
+// Makes the directory of so many names, below one that stands.
+fn make_below(alloc: Global, tree: &mut Tree<Body>, names: &[u64]) -> Result<(), Fault> {
+    let path = path_of(alloc, names)?;
+    make(tree, path)
+}
+
+// Makes the directory of an object, and those above it.
+fn make_above(alloc: Global, tree: &mut Tree<Body>, place: u64) -> Result<(), Fault> {
+    let names = [place / 100_000, place / 10_000 % 10, place / 1_000 % 10];
+    make_below(alloc, tree, &names[..1])?;
+    make_below(alloc, tree, &names[..2])?;
+    make_below(alloc, tree, &names)
+}
+
+// Makes the directories of so many objects.
+fn make_each(alloc: Global, tree: &mut Tree<Body>, rows: u64) -> Result<(), Fault> {
+    for n in 0..rows / 1_000 {
+        make_above(alloc, tree, n.wrapping_mul(1_000))?;
+    }
+    Ok(())
+}
+
 /// A tree with the directories of so many objects.
 pub(crate) fn directories(alloc: Global, rows: u64) -> Result<Tree<Body>, Fault> {
     let mut tree = Tree::new(alloc)?;
-    for n in 0..rows / 1_000 {
-        let place = n.wrapping_mul(1_000);
-        let names = [place / 100_000, place / 10_000 % 10, place / 1_000 % 10];
-        make(&mut tree, path_of(alloc, &names[..1])?)?;
-        make(&mut tree, path_of(alloc, &names[..2])?)?;
-        make(&mut tree, path_of(alloc, &names)?)?;
-    }
+    make_each(alloc, &mut tree, rows)?;
     Ok(tree)
 }
 

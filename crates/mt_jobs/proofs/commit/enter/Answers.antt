@@ -1,13 +1,12 @@
-use Rattle.std.proofs.Common.{◌≡◌, ◌+◌, ◌<◌, Some, None, length, sym, ap, ◌∙◌, arith}
+use Rattle.std.proofs.Common.{◌≡◌, ◌+◌, Some, None, sym, ap, ◌∙◌}
 use Rattle.std.specs.Option.{unwrap_or}
 use Rattle.std.proofs.lemmas.Result.{on_ok_weaker}
-use Rattle.mt_model.specs.Feed.{items_of}
 use Rattle.mt_model.specs.JobSteps.{with_entry}
 use Rattle.mt_model.specs.Tasks.{is_running}
 use Rattle.mt_sched.specs.Plans.{plan_at}
 use Rattle.mt_sched.specs.PlanOfJob.{plan_of}
 use Rattle.mt_sched.specs.PlanSteps.{committed_in, grown, with_plan}
-use Rattle.mt_feeds.proofs.Entered.{ready_runs, ready_within}
+use Rattle.mt_feeds.proofs.Entered.{ready_runs}
 use Rattle.mt_jobs.proofs.Changes.{with_plan_twice}
 use Rattle.mt_jobs.proofs.Plans.{plan_entered}
 use Rattle.mt_jobs.proofs.commit.enter.Goals as goal

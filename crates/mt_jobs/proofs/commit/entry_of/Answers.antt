@@ -1,6 +1,6 @@
-use Rattle.std.proofs.Common.{◌≡◌, List, ℕ, sym, ap, subst, ◌∙◌}
+use Rattle.std.proofs.Common.{List, ℕ, sym, ap, subst, ◌∙◌}
 use Rattle.mt_types.specs.declared.job.TraceEntry.{TraceEntry}
-use Rattle.mt_model.specs.Resolve.{Committing, Resolved, resolve}
+use Rattle.mt_model.specs.Resolve.{Resolved, resolve}
 use Rattle.mt_resolve.specs.Committing.{IsCommitting}
 use Rattle.mt_resolve.specs.Taking.{HasReady}
 use Rattle.mt_jobs.proofs.commit.entry_of.Goals as goal

@@ -1,4 +1,4 @@
-use Rattle.std.proofs.Common.{◌≡◌, ◌+◌, ◌<◌, [], ◌∷◌, drop, length, sym, ap, ◌∙◌, arith}
+use Rattle.std.proofs.Common.{◌+◌, ◌<◌, [], ◌∷◌, drop, length, sym, ap, ◌∙◌, arith}
 use Rattle.mt_model.specs.JobSteps.{with_line, with_lines}
 use Rattle.mt_sched.specs.PlanOfJob.{inputs_in}
 use Rattle.mt_sched.specs.PlanSteps.{grown, with_plan}

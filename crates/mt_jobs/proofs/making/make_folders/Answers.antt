@@ -1,6 +1,6 @@
-use Rattle.std.proofs.Common.{◌≡◌, None, sym, ap, subst, ◌∙◌}
+use Rattle.std.proofs.Common.{ap, ◌∙◌}
 use Rattle.mt_types.specs.declared.object.Entry.TheVariants as entry
-use Rattle.mt_model.specs.Names.{job_folder, job_stor}
+use Rattle.mt_model.specs.Names.{job_folder}
 use Rattle.mt_model.specs.Rows.{make_directory_refusal, with_row}
 use Rattle.mt_jobs.proofs.Added.{stor_free}
 use Rattle.mt_jobs.proofs.making.make_folders.Goals as goal

@@ -1,4 +1,4 @@
-use Rattle.std.proofs.Common.{◌≡◌, ◌++◌, drop, map, take, ap, ◌∙◌, arith, nat_le, subst}
+use Rattle.std.proofs.Common.{map, take, ap, ◌∙◌, arith, nat_le, subst}
 use Rattle.std.specs.List.{filter, filter_map}
 use Rattle.std.specs.List.Sorted.{IsStrictlySortedBy}
 use Rattle.std.specs.Ordering.{nat_cmp}

@@ -1,0 +1,11 @@
+pub mod Buts
+pub mod Copied
+pub mod Drafted
+pub mod Kept
+pub mod Mended
+pub mod Moving
+pub mod Named
+pub mod Opened
+pub mod Pouring
+pub mod Pours
+pub mod Sealing

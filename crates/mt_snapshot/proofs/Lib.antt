@@ -1,0 +1,11 @@
+pub mod Behind
+pub mod Fields
+pub mod Records
+pub mod Whole
+pub mod Weaker
+pub mod Apart
+pub mod Sizes
+pub mod Loops
+pub mod Listed
+pub mod Roots
+pub mod Keeps

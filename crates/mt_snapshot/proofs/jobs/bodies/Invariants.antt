@@ -1,0 +1,9 @@
+use Rattle.std.proofs.Common.{◌≡◌, ◌-◌}
+use Rattle.mt_codec.specs.Reading.{times}
+use Rattle.mt_codec.proofs.Loops.{with_front}
+use Rattle.mt_codec.specs.Readers.{body_at}
+use Rattle.mt_snapshot.proofs.jobs.bodies.Given as goal
+
+-- what was read, and what is still read, is all that is read
+abbrev pub invariant-loop : goal.invariant-loop
+invariant-loop l = with_front l.bodies (times body_at (l.n - l.counter) l.cursor) ≡ times body_at l.fn.n l.fn.cursor
