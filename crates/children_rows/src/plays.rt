@@ -23,12 +23,16 @@ impl Plays {
         })
     }
 
-    // `spawner WORK HELPER`, and how many milliseconds a wait takes.
+    // `spawner WORK HELPER MILLISECONDS LAUNCHER`: how long a wait takes, and what runs the commands, where they are not `-`.
     fn make(&mut self, alloc: Global, row: &Row) -> Result<(), Stop> {
         let spawner = ShSpawner::new(alloc, self.rt, row.text(1)?, row.text(2)?, "l")?;
-        self.spawner = match row.number(3) {
-            Ok(millis) => spawner.within(Duration::from_millis(millis)),
-            Err(_) => spawner,
+        let spawner = match row.text(4)? {
+            "-" => spawner,
+            launcher => spawner.through(launcher)?,
+        };
+        self.spawner = match row.text(3)? {
+            "-" => spawner,
+            _ => spawner.within(Duration::from_millis(row.number(3)?)),
         };
         Ok(())
     }

@@ -24,6 +24,8 @@ pub enum TaskFault {
     Missing(Tool),
     /// A task's folder could not be made or filled, or its shell not be started.
     Start(io::Error),
+    /// A launcher has ended, and what it was given has not: the task was not run, or not to its end.
+    NotRun,
     /// What a task left could not be looked at.
     Outcome(io::Error),
     /// An output of a task could not be read.
@@ -48,6 +50,10 @@ impl fmt::Display for TaskFault {
         match self {
             TaskFault::Missing(tool) => write!(f, "{} is not found", tool.words()),
             TaskFault::Start(error) => write!(f, "a task can't be started: {error}"),
+            TaskFault::NotRun => write!(
+                f,
+                "the launcher of a task has ended, and the task has not"
+            ),
             TaskFault::Outcome(error) => write!(f, "what a task left can't be looked at: {error}"),
             TaskFault::Read(error) => write!(f, "an output of a task can't be read: {error}"),
             TaskFault::Remove(error) => write!(f, "the folder of a task can't be removed: {error}"),
@@ -59,12 +65,14 @@ impl fmt::Display for TaskFault {
 #[derive(Clone, Copy, PartialEq, Eq)]
 enum Cause {
     Missing(Tool),
+    NotRun,
     Call(u8, io::ErrorKind),
 }
 
 fn cause_of(fault: &TaskFault) -> Cause {
     match fault {
         TaskFault::Missing(tool) => Cause::Missing(*tool),
+        TaskFault::NotRun => Cause::NotRun,
         TaskFault::Start(error) => Cause::Call(0, error.kind()),
         TaskFault::Outcome(error) => Cause::Call(1, error.kind()),
         TaskFault::Read(error) => Cause::Call(2, error.kind()),

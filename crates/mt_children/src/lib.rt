@@ -3,6 +3,7 @@
 //!
 //! - `sh_spawner`: the commands. `running`, `held`: those that live, and the one that has ended.
 //! - `task_folder`, `script`, `outcome`: what a command finds, how it is started, and what it left. `group`: how it is ended.
+//!   `quiet`: commands of the system that are called for it.
 //! - `needs`: what tasks need. `fault`: why a call failed. `rests`: how long none is started then. `slice`: how long ended children are
 //!   taken until others have their turn.
 //! - `folder_spool`: the files of helpers.
@@ -14,6 +15,7 @@ mod group;
 mod held;
 mod needs;
 mod outcome;
+mod quiet;
 mod rests;
 mod running;
 mod script;

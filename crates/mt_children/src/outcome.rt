@@ -1,19 +1,27 @@
 //! What is told of an ended task, by its folder.
 ghost use Rattle.std.specs.Prelude.{◌≤◌, IfOk, length};
 
+use crate::script::ENDED;
+use crate::task_folder::TASK;
 use mt_base::{Bytes, Sequence};
 use mt_spawn::{FileSize, Left, Part, Sizes};
 use mt_types::{LARGEST_OUTPUT, LONGEST_STDERR, MOST_RECORDS};
 use std::alloc::{AllocError, Global};
 use std::fs::{self, DirEntry, File};
-use std::io;
 use std::io::ErrorKind;
 use std::os::unix::fs::FileExt;
 use std::process::ExitStatus;
 use std::rt::Files;
+use std::{io, str};
 
 /// The status of a child that a signal ended.
 const BY_SIGNAL: u32 = 255;
+
+/// The greatest status that a shell has.
+const LAST_STATUS: u32 = 255;
+
+/// The bytes of a file that tells a status, of which a longer one has none: three digits, a newline and one more.
+const STATUS_LEN: usize = 5;
 
 /// How many files of records are kept of a task: one more than it may make, so that a task that made too many is known by it.
 const MOST_KEPT: usize = MOST_RECORDS + 1;
@@ -153,6 +161,7 @@ fn sizes_of(out: u64, records: Records) -> Sizes {
     }
 }
 
+// The status of a child.
 fn status_of(status: ExitStatus) -> u32 {
     match status.code() {
         Some(code) => u32::try_from(code).unwrap_or(BY_SIGNAL),
@@ -160,16 +169,56 @@ fn status_of(status: ExitStatus) -> u32 {
     }
 }
 
-/// What is told of an ended task. Where its folder is gone, or is none, it has left nothing.
-pub(crate) fn left_in<R: Files<File = File>>(
+// The status that a text tells: a decimal and a newline.
+fn status_in(text: &[u8]) -> Option<u32> {
+    let number = str::from_utf8(text).ok()?.strip_suffix('\n')?;
+    number_of(number).filter(|status| *status <= LAST_STATUS)
+}
+
+// The status in the file of a ticket's folder that is written last of all, if it is there and tells one.
+fn told_status<R: Files<File = File>>(
     rt: &R,
     alloc: Global,
     folder: &str,
+) -> io::Result<Option<u32>> {
+    let path = format!(in alloc; "{folder}/{ENDED}")?;
+    if len_of(rt, path.as_str())? == 0 {
+        return Ok(None);
+    }
+    let mut front = [0; STATUS_LEN];
+    let count = read_front(&File::open(rt, path.as_str())?, &mut front)?;
+    Ok(status_in(&front[..count]))
+}
+
+/// What is told of the ended task of a ticket's folder: the status of its child, or, where that was a launcher, the one that the task
+/// has told itself. Where it has told none, it was not run.
+pub(crate) fn told_of<R: Files<File = File>>(
+    rt: &R,
+    alloc: Global,
+    folder: &str,
+    is_launched: bool,
     status: ExitStatus,
+) -> io::Result<Option<Left>> {
+    if !is_launched {
+        return Ok(Some(left_in(rt, alloc, folder, status_of(status))?));
+    }
+    let Some(status) = told_status(rt, alloc, folder)? else {
+        return Ok(None);
+    };
+    let task = format!(in alloc; "{folder}/{TASK}")?;
+    Ok(Some(left_in(rt, alloc, task.as_str(), status)?))
+}
+
+// What is told of an ended task with this status. Where its folder is gone, or is none, it has left nothing.
+fn left_in<R: Files<File = File>>(
+    rt: &R,
+    alloc: Global,
+    folder: &str,
+    status: u32,
 ) -> io::Result<Left> {
     if !is_folder(rt, folder)? {
         return Ok(Left {
-            status: status_of(status),
+            status,
             stderr: Bytes::from_slice(alloc, b"")?,
             made: sizes_of(0, Records::new(alloc)),
         });
@@ -178,7 +227,7 @@ pub(crate) fn left_in<R: Files<File = File>>(
     let out = len_of(rt, out.as_str())?;
     let records = records_of(rt, alloc, folder)?;
     Ok(Left {
-        status: status_of(status),
+        status,
         stderr: error_in(rt, alloc, folder)?,
         made: sizes_of(out, records),
     })

@@ -1,16 +1,18 @@
 //! A spawner of commands under a shell.
-ghost use Rattle.std.specs.Prelude.{◌≡◌, ◌+◌, ◌<◌, ℕ, List, ⊤, min};
+ghost use Rattle.std.specs.Prelude.{◌≡◌, ◌+◌, ◌<◌, ◌^◌, ℕ, IfOk, List, ⊤, min, string_bytes};
+ghost use Rattle.mt_children.specs.State.{folder_path, is_from_root};
 
 use crate::fault::{TaskFault, Teller};
-use crate::group::{end, end_rest};
+use crate::group::{end, end_launched, end_rest, end_rest_launched};
 use crate::held::Held;
 use crate::needs::{Unready, prepare};
-use crate::outcome::{is_folder, left_in};
+use crate::outcome::{is_folder, told_of};
+use crate::quiet::quiet_command;
 use crate::rests::Rests;
 use crate::running::{Children, Found};
-use crate::script::command_of;
+use crate::script::{command_of, launch_of, run_of};
 use crate::slice::Slice;
-use crate::task_folder::{Unstarted, fill, make_folder, path_of};
+use crate::task_folder::{Unstarted, fill, make_folder, path_of, task_path_of, write_run};
 use mt_adapters::Wakes;
 use mt_base::{Duplicate, NUMBERS_END};
 use mt_edge::{ReadStep, Source};
@@ -20,7 +22,7 @@ use std::fs::File;
 use std::io::{Eprint, ErrorKind};
 use std::marker::Model;
 use std::os::fd::AsRawFd;
-use std::process::{Child, Command, ExitStatus, Processes, Stdio, SystemProcess};
+use std::process::{Child, Command, ExitStatus, Processes, SystemProcess};
 use std::rc::Rc;
 use std::rt::Files;
 use std::time::{Clock, Duration};
@@ -39,7 +41,8 @@ const FAILED_PAUSE: u64 = 1;
 /// of a session and of a group, which is ended as a whole. No bytes of a child are ever whole in memory, and one file of its is open
 /// at a time. It tells nothing of what a command gives. Behind a start that failed no other is tried for a second, then two, and at most
 /// thirty, and each answers `Failed`. A new cause of a failure is said on standard error, at most once a minute. Beside a door, which it
-/// wakes where a child ends, it takes ended children for 20 ms, and then none until the next look.
+/// wakes where a child ends, it takes ended children for 20 ms, and then none until the next look. With a launcher each child is one, and what it has run tells
+/// the status; a launcher that ended without that is a fault, and its ticket `Failed`.
 #[derive(Drop)]
 pub struct ShSpawner<R> {
     rt: R,
@@ -48,6 +51,7 @@ pub struct ShSpawner<R> {
     work: String,
     helper: String,
     login: String,
+    launcher: Option<String>,
     patience: Option<Duration>,
     is_ready: bool,
     children: Children,
@@ -63,21 +67,23 @@ pub struct ShSpawner<R> {
 }
 
 impl<R> Model for ShSpawner<R> {
-    ghost use Rattle.std.specs.Prelude.{◌≡◌, nat_lt, is_some};
+    ghost use Rattle.std.specs.Duration.{as_nanos};
+    ghost use Rattle.std.specs.Prelude.{◌≡◌, nat_lt, is_some, option_map, string_bytes};
     ghost use Rattle.mt_children.specs.State.{ShState};
 
     ghost Value = { ShState };
 
-    ghost view = { λ s. record { live = s.children.items.items; faults = s.faults; waits = s.waits; company = s.company; held = s.held } };
+    ghost view = { λ s. record { settings = record { work = string_bytes s.work; helper = string_bytes s.helper; login = string_bytes s.login; launcher = option_map string_bytes s.launcher; patience = option_map as_nanos s.patience; wakes = is_some s.wakes }; live = s.children.items.items; faults = s.faults; waits = s.waits; company = s.company; held = s.held } };
 
     ghost invariant = { λ s. is_some s.failure ≡ nat_lt 0 s.faults };
 }
 
 impl<R> ShSpawner<R> {
+    ghost use Rattle.std.specs.Duration.{as_nanos};
     ghost use Rattle.std.specs.Prelude.{◌≡◌, nat_lt, IfOk, is_some, length};
     ghost use Rattle.mt_adapters.specs.Device.{one_more};
     ghost use Rattle.mt_spawn.specs.Children.{lives};
-    ghost use Rattle.mt_children.specs.State.{first_state};
+    ghost use Rattle.mt_children.specs.State.{first_state, with_launcher, with_patience, with_wakes};
 
     /// Commands whose folders stand below `work`, which find the helpers at `helper`, a program's name or its path, and whose outputs
     /// belong to `login`. It makes no call of the system.
@@ -90,15 +96,15 @@ impl<R> ShSpawner<R> {
     ) -> Result<ShSpawner<R>, AllocError>
     where
         R: Drop,
-        ensures { IfOk result (λ s. s ≡ first_state) }
+        ensures { IfOk result (λ s. s ≡ first_state work.now helper.now login.now) }
     {
-        let before = if work.starts_with('/') { "" } else { "./" };
         Ok(ShSpawner {
             rt,
             alloc,
-            work: format!(in alloc; "{before}{work}")?,
+            work: folder_path(alloc, work)?,
             helper: String::from_str(alloc, helper)?,
             login: String::from_str(alloc, login)?,
+            launcher: None,
             patience: None,
             is_ready: false,
             children: Children::new(alloc),
@@ -116,16 +122,28 @@ impl<R> ShSpawner<R> {
 
     /// The same spawner, of which a wait in which no child ends takes about so long. Unless it is asked for, a wait takes until a child ends.
     pub fn within(mut self, patience: Duration) -> ShSpawner<R>
-        ensures { result ≡ self }
+        ensures { result ≡ with_patience (as_nanos patience) self }
     {
         self.patience = Some(patience);
         self
     }
 
+    /// The same spawner, whose commands a program runs elsewhere: `launcher`, a name or a path from the root. It is given `sh` and the
+    /// path of a file, in the ticket's folder, and has to run them once where that folder has the same path, to end when they have, and to end
+    /// them when it is asked to by SIGTERM. The helpers are then found by a name or a path from the root.
+    pub fn through(mut self, launcher: &str) -> Result<ShSpawner<R>, AllocError>
+    where
+        R: Drop,
+        ensures { IfOk result (λ s. s ≡ with_launcher launcher.now self) }
+    {
+        self.launcher = Some(String::from_str(self.alloc, launcher)?);
+        Ok(self)
+    }
+
     /// The same spawner, beside a door that these wake: when a child ends, when a start may be tried again, and soon again behind a look
     /// that found none because the others have their turn.
     pub fn waking(mut self, wakes: Rc<Wakes>) -> ShSpawner<R>
-        ensures { result ≡ self }
+        ensures { result ≡ with_wakes self }
     {
         self.wakes = Some(wakes);
         self
@@ -243,6 +261,29 @@ impl<R: Clock + Eprint> ShSpawner<R> {
     }
 }
 
+// The path of the work folder: from the root, or from `./`.
+fn folder_path(alloc: Global, work: &str) -> Result<String, AllocError>
+    ensures { IfOk result (λ path. string_bytes path ≡ folder_path work.now) }
+{
+    let mut path = String::new(alloc);
+    if !is_from_root(work) {
+        path.push_str("./")?;
+    }
+    path.push_str(work)?;
+    Ok(path)
+}
+
+// Whether a path begins with a slash.
+#[tactic(auto, unfolding(crate::specs::State::is_from_root))]
+fn is_from_root(path: &str) -> bool
+    ensures { result ≡ is_from_root path.now }
+{
+    match path.as_bytes().split_first() {
+        Some((first, _)) => *first == b'/',
+        None => false,
+    }
+}
+
 // A count of faults with one more.
 fn counted(faults: u64) -> u64
     ensures { result ≡ min 18446744073709551615 (faults + 1) }
@@ -260,13 +301,7 @@ fn open_up<R: Files + Processes>(rt: &R, alloc: Global, folder: &str) -> io::Res
     if !is_folder(rt, folder)? {
         return Ok(());
     }
-    let mut command = Command::new(alloc, "chmod")?;
-    command.arg("-R")?.arg("u+rwX")?.arg(folder)?;
-    command
-        .stdin(Stdio::null())
-        .stdout(Stdio::null())
-        .stderr(Stdio::null());
-    command.status(rt)?;
+    quiet_command(alloc, "chmod", &["-R", "u+rwX", folder])?.status(rt)?;
     Ok(())
 }
 
@@ -286,19 +321,43 @@ fn or_missing(done: io::Result<()>) -> io::Result<()> {
     }
 }
 
-// What is told of the ended task in a folder. What its command made unreadable is made readable first.
+// What is told of the ended task of a ticket's folder, if it was run. What its command made unreadable is made readable first.
 fn left_of<R: Files<File = File> + Processes>(
     rt: &R,
     alloc: Global,
     folder: &str,
+    is_launched: bool,
     status: ExitStatus,
-) -> io::Result<Left> {
-    let left = left_in(rt, alloc, folder, status);
+) -> io::Result<Option<Left>> {
+    let left = told_of(rt, alloc, folder, is_launched, status);
     if !is_closed(&left) {
         return left;
     }
     open_up(rt, alloc, folder)?;
-    left_in(rt, alloc, folder, status)
+    told_of(rt, alloc, folder, is_launched, status)
+}
+
+// Ends a child with its whole group.
+fn stop<R: Processes + Clock>(
+    rt: &R,
+    alloc: Global,
+    is_launched: bool,
+    process: &mut Child<SystemProcess>,
+) {
+    if is_launched {
+        end_launched(rt, alloc, process);
+    } else {
+        end(rt, alloc, process);
+    }
+}
+
+// Ends what a child that was waited for has left in its group.
+fn stop_rest<R: Processes + Clock>(rt: &R, alloc: Global, is_launched: bool, group: u32) {
+    if is_launched {
+        end_rest_launched(rt, alloc, group);
+    } else {
+        end_rest(rt, alloc, group);
+    }
 }
 
 impl<R: Files<File = File> + Processes<Started = SystemProcess> + Clock> ShSpawner<R> {
@@ -307,6 +366,16 @@ impl<R: Files<File = File> + Processes<Started = SystemProcess> + Clock> ShSpawn
     ghost use Rattle.mt_base.specs.Counts.{NeverFell, Rose};
     ghost use Rattle.mt_spawn.specs.Children.{lives};
     ghost use Rattle.mt_children.specs.State.{IsStarted};
+
+    // Ends the child at a place.
+    fn stop_at(&mut self, place: usize)
+        requires { place < length self.old.live }
+        ensures { self.new ≡ self.old }
+    {
+        let is_launched = self.launcher.is_some();
+        let process = &mut self.children.items[place].process;
+        stop(&self.rt, self.alloc, is_launched, process);
+    }
 
     // Removes the folder of a number, with all that is in it, where it is there. What its command made unreadable is made readable
     // first.
@@ -333,31 +402,39 @@ impl<R: Files<File = File> + Processes<Started = SystemProcess> + Clock> ShSpawn
         ensures reads { NeverFell (S.read_faults bytes.old) (S.read_faults bytes.new) }
         ensures stays { S.source_stays bytes.old bytes.new }
     {
-        let folder = match path_of(alloc, &self.work, number) {
+        let folder = match task_path_of(alloc, &self.work, number, self.launcher.is_some()) {
             Ok(folder) => folder,
             Err(error) => return Err(Unstarted::System(io::Error::from(error))),
         };
         fill(&self.rt, alloc, folder.as_str(), order, bytes)?;
-        match self.spawn(alloc, folder.as_str(), order) {
+        match self.spawn(alloc, number, order) {
             Ok(process) => Ok(process),
             Err(error) => Err(Unstarted::System(error)),
         }
     }
 
-    // Starts the command of an order in its folder.
-    fn spawn(
-        &self,
-        alloc: Global,
-        folder: &str,
-        order: &Order,
-    ) -> io::Result<Child<SystemProcess>> {
+    // Starts the command of an order in the folder of a number.
+    fn spawn(&self, alloc: Global, number: u64, order: &Order) -> io::Result<Child<SystemProcess>> {
         if order.job >= NUMBERS_END {
             return Err(io::Error::from(ErrorKind::InvalidInput));
         }
-        let mut command = command_of(alloc, folder, &self.helper, &self.login, order)?;
+        let mut command = self.start_of(alloc, number, order)?;
         let process = command.spawn(&self.rt)?;
         self.watch(&process);
         Ok(process)
+    }
+
+    // What starts the command of an order: its shell, or a launcher, for which a file is written.
+    fn start_of(&self, alloc: Global, number: u64, order: &Order) -> io::Result<Command>
+        requires { order.now.job < 2 ^ 62 }
+    {
+        let folder = path_of(alloc, &self.work, number)?;
+        let Some(launcher) = &self.launcher else {
+            return Ok(command_of(alloc, folder.as_str(), &self.helper, &self.login, order)?);
+        };
+        let run = run_of(alloc, &self.helper, &self.login, order)?;
+        write_run(&self.rt, alloc, folder.as_str(), run.as_str())?;
+        Ok(launch_of(alloc, folder.as_str(), launcher)?)
     }
 
     // Makes the folder of the next task, under whose number no child lives.
@@ -405,7 +482,7 @@ impl<R: Files<File = File> + Processes<Started = SystemProcess> + Clock> ShSpawn
             Ok(process) => match self.children.add(number, process) {
                 Ok(()) => Ok(number),
                 Err(mut process) => {
-                    end(&self.rt, self.alloc, &mut process);
+                    stop(&self.rt, self.alloc, self.launcher.is_some(), &mut process);
                     let _ = self.discard(number);
                     Err(Unstarted::System(io::Error::from(ErrorKind::OutOfMemory)))
                 }
@@ -456,21 +533,23 @@ impl<R: Files<File = File> + Processes<Started = SystemProcess> + Clock> ShSpawn
         None
     }
 
-    // What an ended child left. What is left of its group is ended first, so that nothing writes into its folder any more.
-    fn look(&mut self, alloc: Global, found: Found) -> io::Result<Left>
+    // What an ended child left, if it is one that was run. What is left of its group is ended first, so that nothing writes into its folder any
+    // more. Its files are not looked at before: where another machine makes them, it would be remembered for a while that they are missing.
+    fn look(&mut self, alloc: Global, found: Found) -> io::Result<Option<Left>>
         requires { found.place < length self.old.live }
         ensures { self.new ≡ self.old }
     {
-        let child = &mut self.children.items[found.place];
-        let number = child.ticket;
+        let number = self.children.items[found.place].ticket;
         match found.status {
             Ok(status) => {
-                end_rest(&self.rt, alloc, child.process.id());
+                let is_launched = self.launcher.is_some();
+                let group = self.children.items[found.place].process.id();
+                stop_rest(&self.rt, alloc, is_launched, group);
                 let folder = path_of(alloc, &self.work, number)?;
-                left_of(&self.rt, alloc, folder.as_str(), status)
+                left_of(&self.rt, alloc, folder.as_str(), is_launched, status)
             }
             Err(error) => {
-                end(&self.rt, alloc, &mut child.process);
+                self.stop_at(found.place);
                 Err(error)
             }
         }
@@ -478,7 +557,7 @@ impl<R: Files<File = File> + Processes<Started = SystemProcess> + Clock> ShSpawn
 }
 
 impl<R: Files<File = File> + Processes<Started = SystemProcess> + Clock + Eprint> ShSpawner<R> {
-    ghost use Rattle.std.specs.Prelude.{◌≡◌, ◌<◌, IfOk, None, length, ⊤};
+    ghost use Rattle.std.specs.Prelude.{◌≡◌, ◌<◌, IfOk, IfSome, None, length, ⊤};
     ghost use Rattle.std.specs.Io.{ReadsAtMost};
     ghost use Rattle.mt_spawn.specs.Children.{Waits};
     ghost use Rattle.mt_children.specs.State.{ended, faults_after_wait, lost, seen_of};
@@ -507,13 +586,19 @@ impl<R: Files<File = File> + Processes<Started = SystemProcess> + Clock + Eprint
         requires free { self.old.held ≡ None }
         ensures wait { Waits (λ fate raw. ⊤) (seen_of self.old) result self.new.held None (seen_of self.new) }
         ensures counted { self.new.faults ≡ faults_after_wait self.old.faults result }
+        ensures settings { self.new.settings ≡ self.old.settings }
     {
         let number = self.children.items[found.place].ticket;
         let ticket = Ticket { number };
         match self.look_twice(alloc, found) {
-            Ok((left, kept)) => {
+            Ok(Some((left, kept))) => {
                 self.hold(number, kept);
                 Waited::Ended { ticket, left }
+            }
+            Ok(None) => {
+                self.lose(number);
+                self.fail(TaskFault::NotRun);
+                Waited::Failed(ticket)
             }
             Err(error) => {
                 self.lose(number);
@@ -526,15 +611,17 @@ impl<R: Files<File = File> + Processes<Started = SystemProcess> + Clock + Eprint
         }
     }
 
-    // What an ended child left, and a copy of it.
-    fn look_twice(&mut self, alloc: Global, found: Found) -> io::Result<(Left, Left)>
+    // What an ended child left, and a copy of it, if it was run.
+    fn look_twice(&mut self, alloc: Global, found: Found) -> io::Result<Option<(Left, Left)>>
         requires { found.place < length self.old.live }
         ensures same { self.new ≡ self.old }
-        ensures copy { IfOk result (λ both. both.1 ≡ both.0) }
+        ensures copy { IfOk result (λ seen. IfSome seen (λ both. both.1 ≡ both.0)) }
     {
-        let left = self.look(alloc, found)?;
+        let Some(left) = self.look(alloc, found)? else {
+            return Ok(None);
+        };
         let copy = left.copy(alloc)?;
-        Ok((left, copy))
+        Ok(Some((left, copy)))
     }
 
     // Reads from a part of what is held.
@@ -545,7 +632,8 @@ impl<R: Files<File = File> + Processes<Started = SystemProcess> + Clock + Eprint
         let Some(held) = &mut self.held else {
             return Err(io::Error::from(ErrorKind::NotFound));
         };
-        let folder = path_of(self.alloc, &self.work, held.number)?;
+        let is_launched = self.launcher.is_some();
+        let folder = task_path_of(self.alloc, &self.work, held.number, is_launched)?;
         let done = held.read(&self.rt, self.alloc, folder.as_str(), part, at, into);
         if !is_closed(&done) {
             return done;
@@ -617,6 +705,7 @@ impl<R: Files<File = File> + Processes<Started = SystemProcess> + Clock + Eprint
         requires free { self.old.held ≡ None }
         ensures wait { Waits (λ fate raw. ⊤) (seen_of self.old) result self.new.held None (seen_of self.new) }
         ensures counted { self.new.faults ≡ faults_after_wait self.old.faults result }
+        ensures settings { self.new.settings ≡ self.old.settings }
     {
         let found = if patient {
             self.await_one()
@@ -664,6 +753,7 @@ impl<R: Files<File = File> + Processes<Started = SystemProcess> + Clock + Eprint
         ensures same { SameLive (seen_of self.old) (seen_of self.new) }
         ensures faults { NeverFell self.old.faults self.new.faults }
         ensures free { self.new.held ≡ None }
+        ensures settings { self.new.settings ≡ self.old.settings }
     {
         let Some(held) = self.held.take() else {
             return;
@@ -678,8 +768,7 @@ impl<R: Files<File = File> + Processes<Started = SystemProcess> + Clock + Eprint
         ensures { self.new ≡ lost self.old ticket.number }
     {
         if let Some(place) = self.children.place_of(ticket.number) {
-            let child = &mut self.children.items[place];
-            end(&self.rt, self.alloc, &mut child.process);
+            self.stop_at(place);
         }
         self.lose(ticket.number);
     }

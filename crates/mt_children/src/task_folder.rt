@@ -4,6 +4,7 @@ ghost use Rattle.std.specs.Io.KnownBytes.{IsAtEnd};
 ghost use Rattle.mt_base.specs.Counts.{NeverFell, Rose};
 
 use crate::fault::Tool;
+use crate::script::run_path;
 use mt_edge::{ReadStep, Source};
 use mt_spawn::{AssetSize, Order};
 use std::alloc::{AllocError, Global};
@@ -11,6 +12,9 @@ use std::fs::{self, File};
 use std::io;
 use std::io::{ErrorKind, Write};
 use std::rt::Files;
+
+/// The name of a task's folder in that of its ticket, where a launcher runs it. Without one both are the same.
+pub(crate) const TASK: &str = "task";
 
 /// How many bytes of a source are read at once.
 const PIECE: usize = 65_536;
@@ -26,9 +30,23 @@ pub(crate) enum Unstarted {
     System(io::Error),
 }
 
-// The name of a task's folder.
+/// The folder of a ticket.
 pub(crate) fn path_of(alloc: Global, work: &str, number: u64) -> Result<String, AllocError> {
     format!(in alloc; "{work}/{number}")
+}
+
+/// The folder of a ticket's task.
+pub(crate) fn task_path_of(
+    alloc: Global,
+    work: &str,
+    number: u64,
+    is_launched: bool,
+) -> Result<String, AllocError> {
+    if is_launched {
+        format!(in alloc; "{work}/{number}/{TASK}")
+    } else {
+        path_of(alloc, work, number)
+    }
 }
 
 /// Makes the first folder of a number from `from` on that nothing there has.
@@ -110,11 +128,11 @@ fn make_asset<R: Files<File = File>>(
     File::create(rt, path.as_str())
 }
 
-// Makes the input's file, the folder for records, and the files of what the command writes: on a disk that has no room for them no
-// task is started.
+// Makes the input's file, the folder for records, with that of the task where it is missing, and the files of what the command writes:
+// on a disk that has no room for them no task is started.
 fn make_input<R: Files<File = File>>(rt: &R, alloc: Global, folder: &str) -> io::Result<File> {
     let spool = format!(in alloc; "{folder}/spool")?;
-    fs::create_dir(rt, spool.as_str())?;
+    fs::create_dir_all(rt, spool.as_str())?;
     for name in ["err", "out"] {
         let path = format!(in alloc; "{folder}/{name}")?;
         File::create(rt, path.as_str())?;
@@ -152,6 +170,18 @@ fn fill_assets<R: Files<File = File>, S: Source>(
         copy_to(bytes, asset.len, made)?;
     }
     Ok(())
+}
+
+/// Writes the file that a launcher runs, and closes it.
+pub(crate) fn write_run<R: Files<File = File>>(
+    rt: &R,
+    alloc: Global,
+    folder: &str,
+    text: &str,
+) -> io::Result<()> {
+    let path = run_path(alloc, folder)?;
+    let mut file = File::create(rt, path.as_str())?;
+    file.write_all(text.as_bytes())
 }
 
 /// Fills the folder of an order: its input and its assets, of the bytes of a source, which is read to its end.

@@ -6,7 +6,7 @@ use Rattle.std.proofs.lemmas.Option.{none-some}
 use Rattle.mt_base.specs.declared.limits.TheConstants.{LAST_MOMENT}
 use Rattle.mt_bytes.specs.Decimals.{decimal_number}
 use Rattle.mt_path.specs.AccountPath.{is_login}
-use Rattle.mt_settings.specs.Words.{AreWithin, given_by, given_or, goes_on, mode_by, settings_at, is_some_text, is_helper, no_option, number_within, once, option_named, options_from, placed, text_if, with_named, with_option, within}
+use Rattle.mt_settings.specs.Words.{AreWithin, given_by, given_or, goes_on, mode_by, settings_at, is_some_text, is_program, no_option, number_within, once, option_named, options_from, placed, text_if, with_named, with_option, within}
 use Rattle.mt_settings.specs.declared.fault.OptionFault.{OptionFault}
 use Rattle.mt_settings.specs.declared.fault.OptionName.{OptionName}
 use Rattle.mt_settings.specs.declared.fault.OptionName.TheVariants as option
@@ -52,7 +52,8 @@ option_keeps g new option.Login v is before = other (λ x. record g { login = x 
 option_keeps g new option.Store v is before = other (λ x. record g { store = x }) (once g.store (text_if (is_some_text v) v)) new (λ x. before) is
 option_keeps g new option.LogLimit v is before = other (λ x. record g { log_limit = x }) (once g.log_limit (number_within 9 68719476736 v)) new (λ x. before) is
 option_keeps g new option.Work v is before = other (λ x. record g { work = x }) (once g.work (text_if (is_some_text v) v)) new (λ x. before) is
-option_keeps g new option.Helper v is before = other (λ x. record g { helper = x }) (once g.helper (text_if (is_helper v) v)) new (λ x. before) is
+option_keeps g new option.Helper v is before = other (λ x. record g { helper = x }) (once g.helper (text_if (is_program v) v)) new (λ x. before) is
+option_keeps g new option.Launcher v is before = other (λ x. record g { launcher = x }) (once g.launcher (text_if (is_program v) v)) new (λ x. before) is
 option_keeps g new option.Listen v is before = other (λ x. record g { listen = x }) (once g.listen (text_if (is_some_text v) v)) new (λ x. before) is
 option_keeps g new option.Slots v is before =
     number_taken (λ x. record g { slots = x }) g.slots (number_within 1 64 v) new (λ n fine. (before.0, one_of 1 64 n (within_bounds 1 64 (decimal_number v) n fine), before.2)) is

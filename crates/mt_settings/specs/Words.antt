@@ -22,8 +22,8 @@ abbrev pub is_some_text : List ℕ → Bool
 is_some_text text = nat_lt 0 (length text)
 
 -- a program by its name alone, or by its path from the root
-abbrev pub is_helper : List ℕ → Bool
-is_helper name = starts_with nat_eq name (codes "/") || not (list_any (λ b. b == 47) name)
+abbrev pub is_program : List ℕ → Bool
+is_program name = is_some_text name && (starts_with nat_eq name (codes "/") || not (list_any (λ b. b == 47) name))
 
 -- a decimal between two bounds
 abbrev pub within : ℕ → ℕ → Option ℕ → Option ℕ
@@ -47,10 +47,11 @@ option_named serves name =
     else (if bytes_eq name (codes "--log-limit") then Some option.LogLimit
     else (if bytes_eq name (codes "--work") then Some option.Work
     else (if bytes_eq name (codes "--helper") then Some option.Helper
+    else (if bytes_eq name (codes "--launcher") then Some option.Launcher
     else (if bytes_eq name (codes "--at") then Some option.At
     else (if serves && bytes_eq name (codes "--connections") then Some option.Connections
     else (if serves && bytes_eq name (codes "--listen") then Some option.Listen
-    else None))))))))
+    else None)))))))))
 
 -- an option that came before is refused, and then a value that is none
 abbrev pub once : {A : Type 0} → Option A → Option A → Result (Option A) OptionFault
@@ -74,7 +75,8 @@ with_option g option.Store v = given_by (λ x. record g { store = x }) (once g.s
 with_option g option.Slots v = given_by (λ x. record g { slots = x }) (once g.slots (number_within 1 64 v))
 with_option g option.LogLimit v = given_by (λ x. record g { log_limit = x }) (once g.log_limit (number_within 9 68719476736 v))
 with_option g option.Work v = given_by (λ x. record g { work = x }) (once g.work (text_if (is_some_text v) v))
-with_option g option.Helper v = given_by (λ x. record g { helper = x }) (once g.helper (text_if (is_helper v) v))
+with_option g option.Helper v = given_by (λ x. record g { helper = x }) (once g.helper (text_if (is_program v) v))
+with_option g option.Launcher v = given_by (λ x. record g { launcher = x }) (once g.launcher (text_if (is_program v) v))
 with_option g option.At v = given_by (λ x. record g { at = x }) (once g.at (number_within 0 LAST_MOMENT v))
 with_option g option.Connections v = given_by (λ x. record g { connections = x }) (once g.connections (number_within 1 1000000 v))
 with_option g option.Listen v = given_by (λ x. record g { listen = x }) (once g.listen (text_if (is_some_text v) v))
@@ -112,7 +114,7 @@ options_from serves g place (name ∷ value ∷ words) =
 -- ---- settings
 
 abbrev pub no_option : Given
-no_option = record { login = None; store = None; slots = None; log_limit = None; work = None; helper = None; at = None; connections = None; listen = None }
+no_option = record { login = None; store = None; slots = None; log_limit = None; work = None; helper = None; launcher = None; at = None; connections = None; listen = None }
 
 abbrev pub given_or : {A : Type 0} → Option A → A → A
 given_or None usual = usual
@@ -148,6 +150,7 @@ settings_at (Some login) (Some store) (Ok m) g = Ok (record {
   log_limit = given_or g.log_limit 1073741824;
   work = given_or g.work (tasks_in store);
   helper = given_or g.helper (codes "marlin_helper");
+  launcher = g.launcher;
   at = g.at;
 })
 

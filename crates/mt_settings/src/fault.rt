@@ -19,6 +19,8 @@ pub enum OptionName {
     Work,
     /// `--helper`: the program of the helpers.
     Helper,
+    /// `--launcher`: the program that runs tasks elsewhere.
+    Launcher,
     /// `--at`: the one moment of the clock.
     At,
     /// `--connections`: how many connections are served.
@@ -39,6 +41,7 @@ impl OptionName {
             OptionName::LogLimit => "--log-limit",
             OptionName::Work => "--work",
             OptionName::Helper => "--helper",
+            OptionName::Launcher => "--launcher",
             OptionName::At => "--at",
             OptionName::Connections => "--connections",
             OptionName::Listen => "--listen",

@@ -1,7 +1,7 @@
 //! The options of a command, each read by its name.
 ghost use Rattle.std.specs.Prelude.{◌≡◌, ◌==◌, IfOk};
 ghost use Rattle.std.specs.List.{list_any};
-ghost use Rattle.mt_settings.specs.Words.{is_helper, no_option, number_within, once, option_named, taken, text_if, with_option};
+ghost use Rattle.mt_settings.specs.Words.{is_program, no_option, number_within, once, option_named, taken, text_if, with_option};
 
 use crate::fault::{OptionFault, OptionName};
 use mt_base::{LAST_MOMENT, Text};
@@ -30,6 +30,7 @@ pub(crate) struct Given {
     pub(crate) log_limit: Option<u64>,
     pub(crate) work: Option<Text>,
     pub(crate) helper: Option<Text>,
+    pub(crate) launcher: Option<Text>,
     pub(crate) at: Option<u64>,
     pub(crate) connections: Option<u64>,
     pub(crate) listen: Option<Text>,
@@ -51,6 +52,8 @@ pub(crate) fn option_named(serves: bool, name: &str) -> Option<OptionName>
         Some(OptionName::Work)
     } else if name == "--helper" {
         Some(OptionName::Helper)
+    } else if name == "--launcher" {
+        Some(OptionName::Launcher)
     } else if name == "--at" {
         Some(OptionName::At)
     } else if serves && name == "--connections" {
@@ -70,10 +73,10 @@ fn has_slash(name: &[u8]) -> bool
 }
 
 // Whether a word names a program: by its name alone, or by its path from the root.
-fn is_helper(name: &str) -> bool
-    ensures { result ≡ is_helper name.now }
+fn is_program(name: &str) -> bool
+    ensures { result ≡ is_program name.now }
 {
-    name.starts_with("/") || !has_slash(name.as_bytes())
+    !name.is_empty() && (name.starts_with("/") || !has_slash(name.as_bytes()))
 }
 
 // The number that a word writes, where it is between two bounds.
@@ -139,6 +142,7 @@ impl Given {
             log_limit: None,
             work: None,
             helper: None,
+            launcher: None,
             at: None,
             connections: None,
             listen: None,
@@ -171,7 +175,8 @@ impl Given {
                 number_within(LEAST_LIMIT, GREATEST_LIMIT, value),
             )),
             OptionName::Work => take_text(alloc, &mut self.work, !value.is_empty(), value),
-            OptionName::Helper => take_text(alloc, &mut self.helper, is_helper(value), value),
+            OptionName::Helper => take_text(alloc, &mut self.helper, is_program(value), value),
+            OptionName::Launcher => take_text(alloc, &mut self.launcher, is_program(value), value),
             OptionName::At => Ok(take_number(&mut self.at, number_within(0, LAST_MOMENT, value))),
             OptionName::Connections => Ok(take_number(
                 &mut self.connections,

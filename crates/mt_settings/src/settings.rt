@@ -45,6 +45,8 @@ pub struct Settings {
     pub work: Text,
     /// The program of the helpers: a name without `/`, or a path from the root; `marlin_helper` unless given.
     pub helper: Text,
+    /// The program that runs tasks elsewhere: a name without `/`, or a path from the root, and not empty. Without it they run here.
+    pub launcher: Option<Text>,
     /// The one moment of the clock, in seconds since 1970, at most 253,402,300,799; the system's time without it.
     pub at: Option<u64>,
 }
@@ -187,6 +189,7 @@ fn settings_from(alloc: Global, serves: bool, given: Given) -> Result<Settings, 
         log_limit,
         work,
         helper,
+        launcher,
         at,
         connections,
         listen,
@@ -211,6 +214,7 @@ fn settings_from(alloc: Global, serves: bool, given: Given) -> Result<Settings, 
         log_limit: log_limit.unwrap_or(USUAL_LIMIT),
         work,
         helper,
+        launcher,
         at,
     })
 }

@@ -50,10 +50,14 @@ fn put_settings(out: &mut String, settings: &Settings) -> Result<(), AllocError>
     put_escaped(out, settings.helper.as_bytes())?;
     out.push_str(", work ")?;
     put_escaped(out, settings.work.as_bytes())?;
-    match settings.at {
-        Some(moment) => write!(out, ", at {moment}"),
-        None => Ok(()),
+    if let Some(moment) = settings.at {
+        write!(out, ", at {moment}")?;
     }
+    if let Some(launcher) = &settings.launcher {
+        out.push_str(", launcher ")?;
+        put_escaped(out, launcher.as_bytes())?;
+    }
+    Ok(())
 }
 
 fn put_mode(out: &mut String, mode: &Mode) -> Result<(), AllocError> {

@@ -1,12 +1,13 @@
-use Rattle.std.proofs.Common.{◌+◌, get_or, min, length, ap, sym, ◌∙◌, arith, Some}
+use Rattle.std.proofs.Common.{◌≡◌, ◌+◌, get_or, min, length, ap, sym, ◌∙◌, arith, Some}
 use Rattle.mt_spawn.specs.Children.{without}
 use Rattle.mt_children.proofs.Live.{is_among}
 use Rattle.mt_children.proofs.sh_spawner.ShSpawner.take.Goals as goal
 
-pub returns-in-Ok-clause-wait : goal.returns-in-Ok-clause-wait
-returns-in-Ok-clause-wait g c =
+pub returns-in-Ok-Some-clause-wait : goal.returns-in-Ok-Some-clause-wait
+returns-in-Ok-Some-clause-wait g c =
     let same = c.look_twice.ensures.same in
     let held = c.hold.ensures in
+    let copied : c.in-Ok-Some.kept ≡ c.in-Ok-Some.left = rw c.in-Ok-Some.field-0-is at c.in-Ok-Some.ensures.copy in
     let there = ap (λ l. get_or l c.args.found.place c.index.result.now) (sym (ap (λ s. s.live) c.self.view_is)) ∙ sym c.index.ensures in (
       record {
         child = c.index.result.now;
@@ -18,5 +19,5 @@ returns-in-Ok-clause-wait g c =
         waits = ap (λ s. s.waits) held ∙ ap (λ s. s.waits) same;
         faults = omega (arith, ap (λ s. s.faults) held, ap (λ s. s.faults) same);
       },
-      ap (λ s. s.held) held ∙ ap Some c.in-Ok.ensures.copy,
+      ap (λ s. s.held) held ∙ ap Some copied,
     )
