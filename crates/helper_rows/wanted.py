@@ -1,5 +1,5 @@
 #!/usr/bin/env python3
-"""Prints the table of helper_rows: what each helper does, by struct and hashlib.
+"""Prints the table of helper_rows: what each helper does, and what a drill asks for, by struct and hashlib.
 
 usage: wanted.py > stdout
 """
@@ -278,6 +278,51 @@ def main():
     for which, call, words in (("source", 0, "l msplit -n 2"), ("source", 1, "l msplit -n 2"), ("spool", 0, "l msplit -n 2"), ("spool", 1, "l msplit -n 2"), ("spool", 2, "l msplit -n 2"), ("spool", 3, "l msplit -n 2"),
                                ("source", 0, "l mcat /l/stor/a"), ("sink", 0, "l mpipe"), ("spool", 1, "l mcat /l/stor/a"), ("source", 0, "l mpipe x")):
         row(f"fails {which} {call} hi", Ends(b"hi", which, call), [it.encode() for it in words.split()])
+
+    drills()
+
+
+def head(request, data):
+    return f"{request} HTTP/1.1\r\nContent-Length: {len(data)}\r\n\r\n{data}"
+
+
+def drill(count):
+    """What a drill of so many objects asks for."""
+    names = [f"/l/stor/d{i % 16}/o{i}" for i in range(count)]
+    job = "/l/jobs/00000002-0000-8000-%04x-%012x" % (0x8000 + ((16 + count) * 4096 >> 48), (16 + count) * 4096)
+    text = "".join(f"PUT /l/stor/d{k} HTTP/1.1\r\nContent-Type: application/json; type=directory\r\nContent-Length: 0\r\n\r\n" for k in range(16))
+    text += "".join(head(f"PUT {name}", "abc"[i % 3] + "\n") for i, name in enumerate(names))
+    text += head("POST /l/jobs", '{"phases":[{"exec":"split"},{"type":"reduce","exec":"count","count":4}]}')
+    text += head(f"POST {job}/live/in", "".join(f"{name}\n" for name in names))
+    return (text + head(f"POST {job}/live/in/end", "")).encode()
+
+
+def part(reducer, data):
+    """A record file: an output for a reducer."""
+    return b"\1\0\1" + struct.pack(">I", reducer) + data + b"MREC" + struct.pack(">Q", len(data))
+
+
+def reducer_of(line):
+    return struct.unpack(">I", hashlib.md5(line.rstrip(b"\n")).digest()[:4])[0] % 4
+
+
+def drills():
+    print("\n# A drill: all its messages, and the first reads of them.")
+    for count in (0, 1, 10, 16, 17, 1000, 10000):
+        text = drill(count)
+        print(f"messages {count}".ljust(48) + f" => {len(text)} bytes, md5 {hashlib.md5(text).hexdigest()}, then End")
+    for count, most, reads in ((1, 40, 8), (10, 1000, 3), (10, 1, 5)):
+        # one read takes no more than the piece of the messages that is kept: a message, or an input
+        pieces = [it + b"\r\n\r\n" for it in drill(count).split(b"\r\n\r\n")[:16]]
+        taken = [it[k : k + most] for it in pieces for k in range(0, len(it), most)][:reads]
+        print(f"reads {count} {most} {reads}".ljust(48) + " => " + "".join(shown(it).strip() for it in taken))
+    print("\n# Its commands.")
+    for data in (b"a\n", b"b\n", b"c\n", b"", b"a\nb\nc\na\n", b"a\nb"):
+        lines = re.findall(rb"[^\n]*\n|[^\n]+", data)
+        files = [part(r, b"".join(it for it in lines if reducer_of(it) == r)) for r in range(4)]
+        print(f"work split {word(data)}".ljust(48) + f" => 0{shown(b'')}" + "".join(f"; {r}{shown(it)}" for r, it in enumerate(files)))
+        print(f"work count {word(data)}".ljust(48) + f" => 0{shown(b'%d' % data.count(10) + bytes([10]))}")
+    print("work cat a".ljust(48) + f" => 127{shown(b'')}")
 
 
 main()

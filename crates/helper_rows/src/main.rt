@@ -1,5 +1,7 @@
-//! `helper_rows`: the helpers in memory, row by row. Its stored run is their table of cases.
+//! `helper_rows`: the helpers in memory, and a drill's messages and work, row by row. Its stored run is their table of cases.
 #![tactic(auto)]
+
+mod drill;
 
 use mt_edge::{MemSink, MemSource};
 use mt_helper::{Status, helper};
@@ -49,7 +51,7 @@ fn taken(alloc: Global, count: u64) -> MemSpool {
     spool
 }
 
-fn put_bytes(out: &mut String, bytes: &[u8]) -> Result<(), Stop> {
+pub(crate) fn put_bytes(out: &mut String, bytes: &[u8]) -> Result<(), Stop> {
     if bytes.len() > MOST_SHOWN {
         write!(out, " ({} bytes)", bytes.len())?;
         return Ok(());
@@ -184,6 +186,9 @@ impl Rows for Helpers {
             "taken" => put_taken(alloc, row, out),
             "room" => put_room(alloc, row, out),
             "fails" => put_failing(alloc, row, out),
+            "messages" => drill::put_messages(alloc, row, out),
+            "reads" => drill::put_reads(alloc, row, out),
+            "work" => drill::put_work(alloc, row, out),
             _ => Err(Stop::NoSuchRow),
         }
     }

@@ -1,9 +1,10 @@
 //! `mantad`: the store over files, standard input and standard output, or over the connections to an address, with tasks under a
-//! shell. It makes the objects and calls `mt_server`.
+//! shell. It makes the objects and calls `mt_server`, or `mt_drill` for a drill.
 //!
-//! - `tell`: what is said on standard error. `helper`: where the program of the helpers is.
+//! - `drilling`: a drill by its words. `tell`: what is said on standard error. `helper`: where the program of the helpers is.
 #![tactic(auto)]
 
+mod drilling;
 mod helper;
 mod tell;
 
@@ -12,8 +13,10 @@ ghost use Rattle.std.specs.Option.{ForSome};
 ghost use Rattle.mt_base.specs.declared.limits.TheConstants.{LAST_MOMENT};
 ghost use Rattle.mt_disk.specs.CrashModel.{IsAtRest};
 ghost use Rattle.mt_log.specs.LogImage.{Fit};
-ghost use Rattle.mt_children.specs.State.{first_state};
+ghost use Rattle.mt_adapters.specs.Device.{first_door};
+ghost use Rattle.mt_children.specs.State.{IsIdle};
 
+use drilling::run_drill;
 use helper::helper_of;
 use mt_adapters::{FileDisk, Standard, StdSink, StdSource, SystemClock, TcpDoor, Wakes, words_of};
 use mt_children::ShSpawner;
@@ -33,6 +36,9 @@ const OUT_OF_MEMORY: u8 = 8;
 
 /// The status where the door failed.
 const NO_LINK: u8 = 10;
+
+/// The command of a drill.
+const DRILL: &str = "drill";
 
 /// How many seconds a serve that is over waits for a task to end, before it leaves the rest to the next start.
 const PATIENCE: u64 = 60;
@@ -98,18 +104,22 @@ fn call_at<D: Disk, P: Spawner, W: Door>(
     }
 }
 
-// Tasks under a shell, in the folder and with the helpers that the words ask for.
+// Tasks under a shell, in the folder, with the helpers and by the launcher that the words ask for.
 fn tasks_of(
     rt: HostRuntime,
     words: &[String],
     settings: &Settings,
 ) -> Result<ShSpawner<HostRuntime>, AllocError>
-    ensures { IfOk result (λ s. s ≡ first_state) }
+    ensures { IfOk result (λ s. IsIdle s) }
 {
     let alloc = rt.alloc();
     let helper = helper_of(rt, words, settings.helper.as_str())?;
     let work = settings.work.as_str();
-    ShSpawner::new(alloc, rt, work, helper.as_str(), settings.login.as_str())
+    let spawner = ShSpawner::new(alloc, rt, work, helper.as_str(), settings.login.as_str())?;
+    match &settings.launcher {
+        Some(launcher) => spawner.through(launcher.as_str()),
+        None => Ok(spawner),
+    }
 }
 
 // Calls the store over standard input and output.
@@ -130,7 +140,45 @@ fn session<D: Disk>(
     Ok(status)
 }
 
-// Calls the store over the connections to an address. A child that ends wakes the door.
+// The same, which are waited for no longer than `PATIENCE` once a serve is over. A child that ends wakes these.
+fn waking_tasks_of(
+    rt: HostRuntime,
+    words: &[String],
+    settings: &Settings,
+    wakes: Rc<Wakes>,
+) -> Result<ShSpawner<HostRuntime>, AllocError>
+    ensures { IfOk result (λ s. IsIdle s) }
+{
+    let spawner = tasks_of(rt, words, settings)?;
+    Ok(spawner.within(Duration::from_secs(PATIENCE)).waking(wakes))
+}
+
+// Calls the store over the connections of a door, and says why it ended.
+fn serve_at<D: Disk>(
+    rt: HostRuntime,
+    words: &[String],
+    settings: &Settings,
+    disk: &mut D,
+    spawner: &mut ShSpawner<HostRuntime>,
+    door: &mut TcpDoor<HostRuntime>,
+) -> Result<u8, AllocError>
+    requires rest { IsAtRest D.seen D.may_leave disk.old }
+    requires fit { ForSome (D.seen disk.old) Fit }
+    requires moment { IfSome settings.now.at (λ moment. moment ≤ LAST_MOMENT) }
+    requires spawner { IsIdle spawner.old }
+    requires door { door.old ≡ first_door }
+{
+    let status = call_at(rt, words, settings.at, disk, spawner, door)?;
+    if let Mode::Serve { listen, .. } = &settings.mode
+        && status == NO_LINK
+    {
+        tell_door(&rt, listen.as_str(), door.failure());
+    }
+    tell_tasks(&rt, status, spawner.failure());
+    Ok(status)
+}
+
+// Calls the store over the connections to an address.
 fn serve<D: Disk>(
     rt: HostRuntime,
     words: &[String],
@@ -144,16 +192,9 @@ fn serve<D: Disk>(
 {
     let alloc = rt.alloc();
     let wakes = Rc::new(alloc, Wakes::new())?;
-    let mut door = TcpDoor::new(alloc, rt, listen)?.waking(wakes.clone()?);
-    let mut spawner = tasks_of(rt, words, settings)?
-        .within(Duration::from_secs(PATIENCE))
-        .waking(wakes);
-    let status = call_at(rt, words, settings.at, disk, &mut spawner, &mut door)?;
-    if status == NO_LINK {
-        tell_door(&rt, listen, door.failure());
-    }
-    tell_tasks(&rt, status, spawner.failure());
-    Ok(status)
+    let mut spawner = waking_tasks_of(rt, words, settings, wakes.clone()?)?;
+    let mut door = TcpDoor::new(alloc, rt, listen)?.waking(wakes);
+    serve_at(rt, words, settings, disk, &mut spawner, &mut door)
 }
 
 // Calls the store over the files that the words ask for.
@@ -170,26 +211,35 @@ fn call_on_files(rt: HostRuntime, words: &[String], settings: &Settings) -> Resu
     Ok(status)
 }
 
-// Calls the store by its words.
-fn run(rt: HostRuntime) -> Result<u8, AllocError> {
-    let alloc = rt.alloc();
-    let words = words_of(&rt, alloc)?;
-    match Settings::read(alloc, &words) {
-        Ok(settings) => call_on_files(rt, &words, &settings),
+// Says a usage line, by a call of the store on words that it doesn't take. It reaches no disk.
+fn refuse(rt: HostRuntime, words: &[String]) -> Result<u8, AllocError> {
+    let mut disk = MemDisk::new(rt.alloc(), b"", b"", b"", NO_STORE, &[])?;
+    let mut spawner = NoSpawner::new();
+    let mut door = NoDoor::new();
+    call_at(rt, words, None, &mut disk, &mut spawner, &mut door)
+}
+
+// Calls the store by its words, which ask for a session or a serve.
+fn run_service(rt: HostRuntime, words: &[String]) -> Result<u8, AllocError> {
+    match Settings::read(rt.alloc(), words) {
+        Ok(settings) => call_on_files(rt, words, &settings),
         Err(SettingsError::Usage(fault)) => {
-            tell_usage(&rt, &words, fault);
-            let mut disk = MemDisk::new(alloc, b"", b"", b"", NO_STORE, &[])?;
-            let mut spawner = NoSpawner::new();
-            call_at(
-                rt,
-                &words,
-                None,
-                &mut disk,
-                &mut spawner,
-                &mut NoDoor::new(),
-            )
+            tell_usage(&rt, words, fault);
+            refuse(rt, words)
         }
         Err(SettingsError::Memory) => Err(AllocError),
+    }
+}
+
+// Does what the words ask for.
+fn run(rt: HostRuntime) -> Result<u8, AllocError> {
+    let words = words_of(&rt, rt.alloc())?;
+    match words.as_slice() {
+        [command, behind @ ..] if command.as_str() == DRILL => match run_drill(rt, behind)? {
+            Some(status) => Ok(status),
+            None => refuse(rt, &words),
+        },
+        _ => run_service(rt, &words),
     }
 }
 

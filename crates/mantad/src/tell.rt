@@ -1,6 +1,7 @@
 //! What the program says on standard error: the word that is wrong, and the cause of each status above 2.
 use mt_adapters::Failure;
 use mt_children::TaskFault;
+use mt_drill::WordsFault;
 use mt_settings::UsageFault;
 use std::io;
 
@@ -12,7 +13,7 @@ fn say(rt: &HostRuntime, line: &str) {
 /// Says why the store ended with a status above 2, but for those of the door and of tasks.
 pub(crate) fn tell_status(rt: &HostRuntime, status: u8, store: &str, failure: Option<&Failure>) {
     match status {
-        0 | 1 | 2 | 6 | 7 | 9 | 10 => {}
+        0 | 1 | 2 | 6 | 7 | 9 | 10 | 14 => {}
         3 => say(rt, "standard input can't be read"),
         4 => say(rt, "standard output can't be written to"),
         5 => tell_disk(rt, store, failure),
@@ -67,6 +68,24 @@ pub(crate) fn tell_door(rt: &HostRuntime, listen: &str, failure: Option<&io::Err
         Some(failure) => eprintln!(rt; "mantad: the address {listen}: {failure}"),
         None => eprintln!(rt; "mantad: the address {listen}: a call failed"),
     };
+}
+
+/// Says which of the words behind `drill` is wrong.
+pub(crate) fn tell_drill(rt: &HostRuntime, words: &[String], fault: WordsFault) {
+    match (fault, words.first()) {
+        (WordsFault::BadCount, Some(count)) => {
+            let _ = eprintln!(rt;
+                "mantad: `{}` is no number of objects from 1 to 10000",
+                count.as_str()
+            );
+        }
+        (WordsFault::NoCount | WordsFault::BadCount, _) => say(
+            rt,
+            "`drill` has no number of objects",
+        ),
+        (WordsFault::Usage(fault), _) => tell_fault(rt, words, fault),
+    }
+    say(rt, "`./mantad --help` tells the words");
 }
 
 /// Says which word is wrong.

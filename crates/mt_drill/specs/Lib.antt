@@ -1,0 +1,5 @@
+pub mod DrillLine
+pub mod DrillWords
+pub mod Drilled
+pub mod Ends
+pub mod Logs
