@@ -1,0 +1,6 @@
+mod Asking
+mod Heads
+mod LivePlaces
+mod Looks
+mod Refusing
+mod Standing

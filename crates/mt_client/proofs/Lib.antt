@@ -1,0 +1,12 @@
+pub mod Asking
+pub mod Causing
+pub mod Choices
+pub mod Closings
+pub mod Getting
+pub mod Inputs
+pub mod Listing
+pub mod Receiving
+pub mod Replies
+pub mod Saying
+pub mod Single
+pub mod Whole

@@ -1,0 +1,14 @@
+pub mod Lists
+pub mod Fronts
+pub mod Trees
+pub mod Names
+pub mod Shows
+pub mod Orders
+pub mod Pages
+pub mod Settles
+pub mod Plays
+pub mod Ends
+pub mod LawfulRows
+pub mod OverStore
+pub mod Told
+pub mod OnLink

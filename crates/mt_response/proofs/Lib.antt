@@ -1,0 +1,5 @@
+pub mod Bodies
+pub mod Found
+pub mod Heads
+pub mod Leads
+mod Lengths

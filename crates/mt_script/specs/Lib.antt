@@ -1,0 +1,4 @@
+pub mod Ends
+pub mod Laws
+pub mod Levels
+pub mod Script
