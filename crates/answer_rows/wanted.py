@@ -96,9 +96,9 @@ class Table:
         head = f"{method} {target} HTTP/1.1\r\n" + "".join(field + "\r\n" for field in fields)
         return head.encode("latin-1") + f"Content-Length: {len(body)}\r\n\r\n".encode() + body
 
-    def brief(self, method, target, body=b"", *fields):
+    def brief(self, method, target, body=b"", *fields, row=None):
         """A request in one row, and the status with what the reply holds, or the part that it names."""
-        row = " ".join(["try", word(method), word(target), word(body), *(word(field.encode("latin-1")) for field in fields)])
+        row = row or " ".join(["try", word(method), word(target), word(body), *(word(field.encode("latin-1")) for field in fields)])
         try:
             reply = self.store.ask(self.request(method, target, body, fields))
         except Unfinished as end:
@@ -126,6 +126,10 @@ class Table:
         if " 200 " in head and "content-md5" in head:
             return f"bytes 0 to {head.split('content-length: ')[1].split(chr(13))[0]}"
         return None
+
+    def post(self, target, count, line):
+        """The same of a line that is posted so many times."""
+        self.brief("POST", target, (line + b"\n") * count, row=f"post {word(target)} {count} {word(line)}")
 
     def put(self, path, body=b"", *fields):
         self.brief("PUT", path, body, *fields)
@@ -502,6 +506,11 @@ def faults(t):
 CAT = b'{"phases":[{"exec":"cat"}]}'
 
 
+def nested(lists):
+    """A document with so many lists within each other, that nobody asked for."""
+    return b'{"phases":[{"exec":"a"}],"more":' + b"[" * lists + b"]" * lists + b"}"
+
+
 def job_path(command, tail=""):
     """The folder of the job that the command behind so many made."""
     return f"/l/jobs/{identifier(2, 4_096 * command)}{tail}"
@@ -548,9 +557,11 @@ def jobs(t):
         b'{"phases":[{"exec":"a\\u0000"}]}', b'{"phases":[{"exec":"a","type":"reduce","count":0}]}', b'{"phases":[{"exec":"a","type":"reduce","count":1025}]}',
         b'{"phases":[{"exec":"a","type":"reduce","count":"2"}]}', b'{"phases":[{"exec":"a","type":"reduce","count":1.0}]}', b'{"phases":[{"exec":"a","assets":{}}]}',
         b'{"phases":[{"exec":"a","assets":[1]}]}', b'{"phases":[{"exec":"a","assets":["a"]}]}', b'{"phases":[{"exec":"a","assets":["/m/stor/a"]}]}', b"\xff" + CAT,
+        nested(128), nested(127), b"[" * 128 + b"]" * 128,
         b'{"phases":[' + b",".join([b'{"exec":"a"}'] * 17) + b"]}", b'{"phases":[{"exec":"a","assets":["/l/stor/none"]}]}', b'{"phases":[{"exec":"a","assets":["/l/stor"]}]}',
         b'{"phases":[{"exec":"a","type":"map","count":0}]}', b'{"name":1,"phases":[{"exec":"a","type":"reduce","count":1024,"more":[]}],"more":{}}',
         b'{"name":"\\u00e9","phases":[{"exec":"a","init":"","assets":["/l/stor/a","~~/stor/a"]}]}', b'{"phases":[' + b",".join([b'{"exec":"a"}'] * 16) + b"]}",
+        nested(126),
     ):
         t.brief("POST", "/l/jobs", document)
     large = b'{"phases":[{"exec":"a","assets":[' + b",".join([b'"/l/stor/large"'] * 64) + b"]}]}"
@@ -677,6 +688,13 @@ def job_bodies(t):
     t.brief("GET", f"{live}fail")
     t.brief("POST", f"{live}in", b"y" * 70_000)
     t.brief("GET", f"{live}status")
+    t.note("One line more than a job takes; and as many as it takes, for which the log has no room.")
+    live = job_path(t.store.count, "/live/")
+    t.brief("POST", "/l/jobs", CAT)
+    t.post(f"{live}in", 1_000_001, b"x")
+    t.post(f"{live}in", 1_000_000, b"x")
+    t.brief("GET", f"{live}in")
+    t.brief("GET", f"{live}fail")
 
 
 def job_faults(t):
@@ -718,6 +736,7 @@ def main():
     print("# Requests and what they are answered, by `python3 wanted.py`. `store`: a new one whose log may have so many bytes; `open`: the same")
     print("# opened again. `ask`: the request above it, the length of the log and the number of commands after it, and the reply. `try`: a")
     print("# request in a row, METHOD TARGET BODY FIELD .., and the status with what the reply holds, or the part of an object that it names.")
+    print("# `post`: the same of a line that is posted so many times.")
     t = Table()
     for part in (objects, tree, pages, conditions, ranges, digests, targets, browsers, two_at_once, space, endings, jobs, listings, job_targets, job_order, job_bodies, faults, job_faults):
         part(t)

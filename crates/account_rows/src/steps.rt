@@ -11,7 +11,7 @@ use mt_codec::{DecodeError, decode};
 use mt_jobs::{JobStand, Jobs};
 use mt_rows::{Row, Rows, Stop};
 use mt_types::{Body, Command, Entry, Job, MOST_COMMANDS, Path, Refusal};
-use std::alloc::Global;
+use std::alloc::{AllocError, Global};
 
 /// An account, where `new` has made one.
 #[derive(Drop)]
@@ -30,13 +30,20 @@ fn decoded(alloc: Global, bytes: &[u8]) -> Result<Command<Body>, Stop>
     }
 }
 
-// The command that a row spells, one that an account takes.
+// The command that a row spells.
+fn spelled(alloc: Global, row: &Row) -> Result<Command<Body>, Stop>
+    ensures { IfOk result (λ c. HasSpelling c) }
+{
+    let bytes = bytes_from(alloc, row, 1)?;
+    decoded(alloc, &bytes)
+}
+
+// The same, where an account takes it.
 fn command_of(alloc: Global, row: &Row) -> Result<Command<Body>, Stop>
     ensures spelled { IfOk result (λ c. HasSpelling c) }
     ensures kind { IfOk result (λ c. IsTaken (kind_of c)) }
 {
-    let bytes = bytes_from(alloc, row, 1)?;
-    let command = decoded(alloc, &bytes)?;
+    let command = spelled(alloc, row)?;
     if is_taken(&command) {
         Ok(command)
     } else {
@@ -105,40 +112,42 @@ fn step(alloc: Global, account: &mut Account, row: &Row, out: &mut String) -> Re
     put_answer(account.count(), answer, out)
 }
 
+fn put_judgement(judgement: Result<(), Refusal>, out: &mut String) -> Result<(), AllocError> {
+    match judgement {
+        Ok(()) => out.push_str("allowed"),
+        Err(refusal) => write!(out, "{refusal:?}"),
+    }
+}
+
 // `judge`: whether a command is allowed.
 fn judge(alloc: Global, account: &Account, row: &Row, out: &mut String) -> Result<(), Stop> {
     let command = command_of(alloc, row)?;
-    match account.judge(&command) {
-        Ok(()) => out.push_str("allowed")?,
-        Err(refusal) => write!(out, "{refusal:?}")?,
-    }
-    Ok(())
+    Ok(put_judgement(account.judge(&command), out)?)
 }
 
 // What stands at a path.
-fn put_entry(found: Option<&Entry<Body>>, out: &mut String) -> Result<(), Stop> {
+fn put_entry(found: Option<&Entry<Body>>, out: &mut String) -> Result<(), AllocError> {
     match found {
-        Some(Entry::Directory { mtime }) => write!(out, "directory {mtime}")?,
+        Some(Entry::Directory { mtime }) => write!(out, "directory {mtime}"),
         Some(Entry::Object(object)) => write!(
             out,
             "object {} {} {}",
             object.number, object.body.len, object.mtime
-        )?,
-        None => out.push_str("none")?,
+        ),
+        None => out.push_str("none"),
     }
-    Ok(())
 }
 
 // `at PATH`
 fn put_at(alloc: Global, account: &Account, row: &Row, out: &mut String) -> Result<(), Stop> {
     match Path::plain(alloc, "l", row.bytes(1)?) {
-        Ok(path) => put_entry(account.tree().get(&path), out),
+        Ok(path) => Ok(put_entry(account.tree().get(&path), out)?),
         Err(_) => Err(Stop::NoSuchRow),
     }
 }
 
 // How a job stands.
-fn put_job(job: &Job<Body>, out: &mut String) -> Result<(), Stop> {
+fn put_job(job: &Job<Body>, out: &mut String) -> Result<(), AllocError> {
     let how = if job.done.is_none() {
         "running"
     } else if job.cancelled {
@@ -152,14 +161,13 @@ fn put_job(job: &Job<Body>, out: &mut String) -> Result<(), Stop> {
         job.inputs.len(),
         job.missing.len(),
         job.trace.len()
-    )?;
-    Ok(())
+    )
 }
 
 // `job NUMBER`
 fn put_found(jobs: &Jobs<Body>, row: &Row, out: &mut String) -> Result<(), Stop> {
     match jobs.get(row.number(1)?) {
-        Some(job) => put_job(job, out),
+        Some(job) => Ok(put_job(job, out)?),
         None => Ok(out.push_str("none")?),
     }
 }

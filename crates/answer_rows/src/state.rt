@@ -105,11 +105,23 @@ impl Store {
             bytes.extend_from_slice(row.bytes(field)?)?;
             bytes.extend_from_slice(b"\r\n")?;
         }
-        bytes.extend_from_slice(format!(in alloc;
-            "Content-Length: {}\r\n\r\n",
-            body.len()
-        )?.as_bytes())?;
-        bytes.extend_from_slice(body)?;
+        put_body(alloc, &mut bytes, body)?;
+        self.request = bytes;
+        Ok(())
+    }
+
+    // `post TARGET NUMBER LINE`: a request that posts so many times one line, with its LF.
+    fn set_lines(&mut self, alloc: Global, row: &Row) -> Result<(), Stop> {
+        let mut body = Vec::new(alloc);
+        for _ in 0..row.number(2)? {
+            body.extend_from_slice(row.bytes(3)?)?;
+            body.push(b'\n')?;
+        }
+        let mut bytes = Vec::new(alloc);
+        bytes.extend_from_slice(b"POST ")?;
+        bytes.extend_from_slice(row.bytes(1)?)?;
+        bytes.extend_from_slice(b" HTTP/1.1\r\n")?;
+        put_body(alloc, &mut bytes, body.as_slice())?;
         self.request = bytes;
         Ok(())
     }
@@ -126,6 +138,16 @@ impl Store {
         self.reads_fail.clear();
         put_answer(alloc, disk, engine, source, self.moment, form, out)
     }
+}
+
+// Ends a head with the length of its body, which stands behind it.
+fn put_body(alloc: Global, bytes: &mut Vec<u8>, body: &[u8]) -> Result<(), Stop> {
+    bytes.extend_from_slice(format!(in alloc;
+        "Content-Length: {}\r\n\r\n",
+        body.len()
+    )?.as_bytes())?;
+    bytes.extend_from_slice(body)?;
+    Ok(())
 }
 
 impl Rows for Store {
@@ -148,6 +170,10 @@ impl Rows for Store {
             b"ask" => self.ask(alloc, Form::Whole, out),
             b"try" => {
                 self.set(alloc, row)?;
+                self.ask(alloc, Form::Short, out)
+            }
+            b"post" => {
+                self.set_lines(alloc, row)?;
                 self.ask(alloc, Form::Short, out)
             }
             b"calls" => match &self.disk {

@@ -129,17 +129,36 @@ impl Messages {
 
     // Plays a row for each number of bytes: the first answer, and each other one that is not the same.
     fn play_each(&mut self, alloc: Global, row: &Row, out: &mut String) -> Result<(), Stop> {
-        let mut first: Option<String> = None;
-        for size in self.sizes(alloc)?.iter() {
+        let sizes = self.sizes(alloc)?;
+        self.play_sizes(alloc, row, &sizes, out)
+    }
+
+    fn play_sizes(
+        &mut self,
+        alloc: Global,
+        row: &Row,
+        sizes: &[usize],
+        out: &mut String,
+    ) -> Result<(), Stop> {
+        let Some((size, others)) = sizes.split_first() else {
+            return Ok(());
+        };
+        let first = self.play(alloc, row, *size)?;
+        out.push_str(&first)?;
+        self.play_others(alloc, row, others, &first, out)
+    }
+
+    fn play_others(
+        &mut self,
+        alloc: Global,
+        row: &Row,
+        sizes: &[usize],
+        first: &str,
+        out: &mut String,
+    ) -> Result<(), Stop> {
+        for size in sizes {
             let answer = self.play(alloc, row, *size)?;
-            match &first {
-                None => {
-                    out.push_str(&answer)?;
-                    first = Some(answer);
-                }
-                Some(wanted) if *wanted == answer => {}
-                Some(_) => write!(out, "\n    by {size}: {answer}")?,
-            }
+            put_other(first, &answer, *size, out)?;
         }
         Ok(())
     }
@@ -155,6 +174,18 @@ impl Messages {
         self.set_bytes(alloc, line)?;
         self.play_each(alloc, row, out)
     }
+}
+
+// An answer that is not the first one.
+fn put_other(first: &str, answer: &str, size: usize, out: &mut String) -> Result<(), AllocError> {
+    if answer == first {
+        return Ok(());
+    }
+    write!(out, "\n    by {size}: {answer}")
+}
+
+fn put_count(count: u64, out: &mut String) -> Result<(), Stop> {
+    Ok(write!(out, "{count}")?)
 }
 
 fn put_read(
@@ -202,8 +233,8 @@ impl Rows for Messages {
             "cuts" => self.set_cuts(alloc, row),
             "fail" => self.set_fails(alloc, row),
             "room" => self.set_room(row),
-            "calls" => Ok(write!(out, "{}", self.calls)?),
-            "faults" => Ok(write!(out, "{}", self.faults)?),
+            "calls" => put_count(self.calls, out),
+            "faults" => put_count(self.faults, out),
             "message" | "asks" if row.len() > 1 => self.play_line(alloc, line, row, out),
             _ => self.play_each(alloc, row, out),
         }

@@ -13,9 +13,16 @@ use std::alloc::{AllocError, Global};
 fn fields_from(alloc: Global, row: &Row, from: usize) -> Result<Fields, Stop> {
     let mut fields = Sequence::new(alloc);
     for place in (from..row.len()).step_by(2) {
-        fields.push(field_of(alloc, row.text(place)?, row.bytes(place.wrapping_add(1))?)?)?;
+        fields.push(field_at(alloc, row, place)?)?;
     }
     Ok(fields)
+}
+
+// The field whose name and value stand from a place on.
+fn field_at(alloc: Global, row: &Row, place: usize) -> Result<Field, Stop> {
+    let name = row.text(place)?;
+    let value = row.bytes(place.wrapping_add(1))?;
+    Ok(field_of(alloc, name, value)?)
 }
 
 fn field_of(alloc: Global, name: &str, value: &[u8]) -> Result<Field, AllocError> {
