@@ -129,7 +129,7 @@ impl Queues {
     fn feed(&mut self, row: &Row) -> Result<bool, Stop> {
         let job = row.number(1)?;
         let phase = narrow(row.number(2)?)?;
-        self.sched.feed(job, phase)?;
+        self.sched.feed(job, phase, 1)?;
         Ok(true)
     }
 

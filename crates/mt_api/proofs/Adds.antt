@@ -17,13 +17,13 @@ use Rattle.mt_cond.specs.Conditions.{conditions_of}
 use Rattle.mt_cond.specs.declared.conditions.Conditions.{Conditions}
 use Rattle.mt_disk.specs.Files.{Files}
 use Rattle.mt_disk.specs.CrashModel.{LeavesOnly}
+use Rattle.mt_opening.specs.Current.{EngineState, IsBetween, IsCurrent}
+use Rattle.mt_opening.specs.History.{Bytes, History}
+use Rattle.mt_opening.proofs.Held.{holding_in}
 use Rattle.mt_engine.specs.Accepting.{Decided, Reaches, Takes}
-use Rattle.mt_engine.specs.Current.{EngineState, IsBetween, IsCurrent}
-use Rattle.mt_engine.specs.History.{Bytes, History}
 use Rattle.mt_engine.specs.declared.engine.Accepted.{Accepted}
 use Rattle.mt_engine.specs.declared.engine.Accepted.TheVariants as accepted
 use Rattle.mt_engine.proofs.Ends.{front_of}
-use Rattle.mt_engine.proofs.Held.{holding_in}
 use Rattle.mt_error.specs.Refusals.{plain}
 use Rattle.mt_error.specs.declared.code.ErrorCode.TheVariants as error
 use Rattle.mt_log.specs.RunState.{RunState, size_with_run}

@@ -15,11 +15,11 @@ use Rattle.mt_base.specs.declared.limits.TheConstants.{LAST_MOMENT}
 use Rattle.mt_codec.specs.Pieces.{spelled_size}
 use Rattle.mt_codec.specs.Spelling.{FitsArchive, IsWithinLimits}
 use Rattle.mt_disk.specs.Files.{Files}
+use Rattle.mt_opening.specs.Current.{EngineState}
+use Rattle.mt_opening.specs.History.{Bytes, History}
+use Rattle.mt_opening.proofs.Held.{Holding}
 use Rattle.mt_engine.specs.Accepting.{HasRoomFor}
 use Rattle.mt_engine.specs.Archiving.{AreTextsOf, ArchiveIn, texts_size}
-use Rattle.mt_engine.specs.Current.{EngineState}
-use Rattle.mt_engine.specs.History.{Bytes, History}
-use Rattle.mt_engine.proofs.Held.{Holding}
 use Rattle.mt_error.specs.Refusals.{plain}
 use Rattle.mt_error.specs.declared.code.ErrorCode.TheVariants as error
 use Rattle.mt_jobtext.specs.JobTexts.{archive_of}

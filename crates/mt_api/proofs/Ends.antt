@@ -6,8 +6,8 @@ use Rattle.mt_body.specs.Stored.{bytes_of}
 use Rattle.mt_disk.specs.Files.{Files}
 use Rattle.mt_disk.specs.CrashModel.{LeavesOnly}
 use Rattle.mt_disk.proofs.Moments.{joins, weakens}
-use Rattle.mt_engine.specs.Current.{EngineState, IsBetween, IsCurrent}
-use Rattle.mt_engine.specs.History.{Bytes, HasHistory, History}
+use Rattle.mt_opening.specs.Current.{EngineState, IsBetween, IsCurrent}
+use Rattle.mt_opening.specs.History.{Bytes, HasHistory, History}
 use Rattle.mt_engine.specs.Ready.{EngineStays}
 use Rattle.mt_engine.proofs.Ends.{all_of}
 use Rattle.mt_error.specs.declared.refused.Refused.{Refused}

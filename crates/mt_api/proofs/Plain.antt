@@ -23,9 +23,9 @@ use Rattle.mt_cond.specs.declared.range.Ranged.TheVariants as part
 use Rattle.mt_disk.specs.Files.{Files}
 use Rattle.mt_disk.specs.CrashModel.{LeavesOnly}
 use Rattle.mt_disk.proofs.Moments.{started}
-use Rattle.mt_engine.specs.Current.{EngineState, IsBetween, IsCurrent, IsWriting, Serves}
-use Rattle.mt_engine.specs.History.{Bytes, HasHistory, History}
-use Rattle.mt_engine.proofs.Held.{Holding, holding_now, told_now}
+use Rattle.mt_opening.specs.Current.{EngineState, IsBetween, IsCurrent, IsWriting, Serves}
+use Rattle.mt_opening.specs.History.{Bytes, HasHistory, History}
+use Rattle.mt_opening.proofs.Held.{Holding, holding_now, told_now}
 use Rattle.mt_engine.proofs.Objects.{served_stored}
 use Rattle.mt_error.specs.Refusals.{plain}
 use Rattle.mt_error.specs.declared.code.ErrorCode.{ErrorCode}

@@ -14,9 +14,9 @@ use Rattle.mt_body.proofs.Keeping.{length-bytes_of}
 use Rattle.mt_cond.specs.Conditions.{conditions_of}
 use Rattle.mt_disk.specs.Files.{Files}
 use Rattle.mt_edge.specs.Stream.{LeftAfter}
-use Rattle.mt_engine.specs.Current.{EngineState, IsCurrent}
-use Rattle.mt_engine.specs.History.{Bytes, History}
-use Rattle.mt_engine.proofs.Held.{Holding}
+use Rattle.mt_opening.specs.Current.{EngineState, IsCurrent}
+use Rattle.mt_opening.specs.History.{Bytes, History}
+use Rattle.mt_opening.proofs.Held.{Holding}
 use Rattle.mt_error.specs.Refusals.{plain}
 use Rattle.mt_error.specs.declared.code.ErrorCode.TheVariants as error
 use Rattle.mt_error.specs.declared.refused.Refused.{Refused}

@@ -4,8 +4,8 @@ use Rattle.std.specs.Prelude.{IfSome, is_some, option_map}
 use Rattle.std.proofs.lemmas.Option.{none-some, same_Some}
 use Rattle.mt_base.specs.Lists.{IsPrefixOf}
 use Rattle.mt_disk.specs.Files.{Files}
-use Rattle.mt_engine.specs.Current.{EngineState, IsCurrent, Serves}
-use Rattle.mt_engine.specs.History.{Bytes, History}
+use Rattle.mt_opening.specs.Current.{EngineState, IsCurrent, Serves}
+use Rattle.mt_opening.specs.History.{Bytes, History}
 use Rattle.mt_http.proofs.Finishes.{over_after}
 use Rattle.mt_http.specs.Body.{BodyState, Told, told_from}
 use Rattle.mt_http.specs.BodyReading.{after_body, body_left}

@@ -8,8 +8,8 @@ use Rattle.mt_base.specs.Lists.{IsPrefixOf}
 use Rattle.mt_body.specs.Stored.{IsStored, bytes_of, pieces_that_fit}
 use Rattle.mt_cond.specs.Conditions.{conditions_of}
 use Rattle.mt_disk.specs.Files.{Files}
-use Rattle.mt_engine.specs.Current.{EngineState, IsCurrent}
-use Rattle.mt_engine.specs.History.{Bytes, History}
+use Rattle.mt_opening.specs.Current.{EngineState, IsCurrent}
+use Rattle.mt_opening.specs.History.{Bytes, History}
 use Rattle.mt_http.specs.Body.{BodyState, Told, told_from}
 use Rattle.mt_http.specs.declared.message.Ending.TheVariants as ending
 use Rattle.mt_http.specs.declared.message.Head.{Head}

@@ -3,8 +3,8 @@ use Rattle.std.specs.Prelude.{◌≡◌, ◌≢◌, ℕ, ◌≤◌, false, IsTru
 use Rattle.mt_base.specs.Counts.{Rose}
 use Rattle.mt_base.specs.declared.limits.TheConstants.{LAST_MOMENT}
 use Rattle.mt_disk.specs.Files.{Files}
-use Rattle.mt_engine.specs.Current.{EngineState}
-use Rattle.mt_engine.specs.Ready.{EngineIsReady, EngineStays, RunIsReady}
+use Rattle.mt_opening.specs.Current.{EngineIsReady, EngineState}
+use Rattle.mt_engine.specs.Ready.{EngineStays, RunIsReady}
 use Rattle.mt_http.specs.Further.{BodyGoesOn}
 use Rattle.mt_http.specs.declared.stream.BodyStream.{BodyStream}
 use Rattle.mt_log.specs.LogState.{Stands}

@@ -14,10 +14,10 @@ use Rattle.mt_body.specs.Stored.{IsStored, bytes_of}
 use Rattle.mt_codec.specs.Spelling.{IsWithinLimits}
 use Rattle.mt_disk.specs.Files.{Files}
 use Rattle.mt_edge.specs.Stream.{LeftAfter}
+use Rattle.mt_opening.specs.Current.{EngineIsReady, EngineState, IsWriting}
+use Rattle.mt_opening.specs.History.{Bytes, History}
 use Rattle.mt_engine.specs.Accepting.{HasRoomFor}
-use Rattle.mt_engine.specs.Current.{EngineState, IsWriting}
-use Rattle.mt_engine.specs.History.{Bytes, History}
-use Rattle.mt_engine.specs.Ready.{EngineIsReady, RunIsReady}
+use Rattle.mt_engine.specs.Ready.{RunIsReady}
 use Rattle.mt_error.specs.declared.refused.Refused.{Refused}
 use Rattle.mt_http.specs.declared.message.Ending.TheVariants as ending
 use Rattle.mt_http.specs.declared.stage.Stage.{Stage}

@@ -8,9 +8,9 @@ use Rattle.mt_base.specs.Lists.{IsPrefixOf}
 use Rattle.mt_body.specs.Stored.{IsStored, bytes_of, pieces_size, pieces_that_fit}
 use Rattle.mt_cond.specs.Conditions.{conditions_of}
 use Rattle.mt_disk.specs.Files.{Files}
+use Rattle.mt_opening.specs.Current.{EngineState, IsCurrent, IsWriting}
+use Rattle.mt_opening.specs.History.{Bytes, History}
 use Rattle.mt_engine.specs.Accepting.{closed, with_run}
-use Rattle.mt_engine.specs.Current.{EngineState, IsCurrent, IsWriting}
-use Rattle.mt_engine.specs.History.{Bytes, History}
 use Rattle.mt_error.specs.Refusals.{plain}
 use Rattle.mt_error.specs.declared.code.ErrorCode.TheVariants as error
 use Rattle.mt_error.specs.declared.refused.Refused.{Refused}

@@ -8,10 +8,10 @@ ghost use Rattle.mt_api.specs.Jobs.{CancelsJob, IsJobCallOf, JobCallIsReady, job
 ghost use Rattle.mt_api.specs.Steps.{Settles};
 ghost use Rattle.mt_codec.specs.Spelling.{FitsArchive};
 ghost use Rattle.mt_disk.specs.CrashModel.{LeavesOnly};
+ghost use Rattle.mt_opening.specs.Current.{IsBetween, IsCurrent};
+ghost use Rattle.mt_opening.specs.History.{Bytes, History};
 ghost use Rattle.mt_engine.specs.Accepting.{HasRoomFor};
 ghost use Rattle.mt_engine.specs.Archiving.{texts_size};
-ghost use Rattle.mt_engine.specs.Current.{IsBetween, IsCurrent};
-ghost use Rattle.mt_engine.specs.History.{Bytes, History};
 ghost use Rattle.mt_model.specs.CommandStep.{replay};
 ghost use Rattle.mt_model.specs.State.{State};
 ghost use Rattle.mt_types.specs.declared.body.Body.{Body};

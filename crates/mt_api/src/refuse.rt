@@ -2,8 +2,8 @@
 ghost use Rattle.std.specs.Prelude.{◌≡◌, ◌≢◌, ◌≤◌, ◌+◌, ℕ, List, []};
 ghost use Rattle.mt_api.specs.Steps.{EndsWith, Replies, Settles};
 ghost use Rattle.mt_disk.specs.CrashModel.{LeavesOnly};
-ghost use Rattle.mt_engine.specs.Current.{IsCurrent, IsWriting};
-ghost use Rattle.mt_engine.specs.History.{Bytes, HasHistory, History};
+ghost use Rattle.mt_opening.specs.Current.{IsCurrent, IsWriting};
+ghost use Rattle.mt_opening.specs.History.{Bytes, HasHistory, History};
 ghost use Rattle.mt_model.specs.State.{State};
 ghost use Rattle.mt_reply.specs.Replies as words;
 ghost use Rattle.mt_api.specs.GoingOn.{SettlesInRun, StepKeeps};

@@ -7,7 +7,7 @@ use Rattle.mt_answer.specs.Answer.{Answer}
 use Rattle.mt_answer.specs.Whole.{answer_of}
 use Rattle.mt_answer.proofs.Steps.{honest_answer}
 use Rattle.mt_answer.proofs.Whole.{one_command}
-use Rattle.mt_engine.specs.History.{Bytes, History}
+use Rattle.mt_opening.specs.History.{Bytes, History}
 use Rattle.mt_http.specs.declared.message.Head.{Head}
 use Rattle.mt_lives.specs.World.{Accept, Attempt, IsAttempt, Steps, World, ticket_of}
 use Rattle.mt_model.specs.CommandStep.{replay}

@@ -13,7 +13,7 @@ use Rattle.mt_answer.specs.declared.posted.Posted.{Posted}
 use Rattle.mt_answer.specs.declared.posted.Posted.TheVariants as posted
 use Rattle.mt_cond.specs.Conditions.{conditions_of}
 use Rattle.mt_cond.specs.declared.conditions.Conditions.{Conditions}
-use Rattle.mt_engine.specs.History.{Bytes, History}
+use Rattle.mt_opening.specs.History.{Bytes, History}
 use Rattle.mt_error.specs.declared.refused.Refused.{Refused}
 use Rattle.mt_http.specs.declared.message.Head.{Head}
 use Rattle.mt_lives.specs.World.{is_of_client}

@@ -6,8 +6,8 @@ use Rattle.std.specs.List.{flat_map, list_any}
 use Rattle.std.proofs.lemmas.Option.{IfSome_then}
 use Rattle.mt_disk.specs.Files.{Files}
 use Rattle.mt_edge.proofs.Streams.{if_some_before}
-use Rattle.mt_engine.specs.Current.{EngineState, Over, Serves}
-use Rattle.mt_engine.specs.History.{Bytes, History}
+use Rattle.mt_opening.specs.Current.{EngineState, Over, Serves}
+use Rattle.mt_opening.specs.History.{Bytes, History}
 use Rattle.mt_http.specs.Framing.{Place, PlaceAt, Spells}
 use Rattle.mt_http.specs.Message.{message_of}
 use Rattle.mt_http.specs.Options.{closes}

@@ -11,8 +11,8 @@ use Rattle.mt_base.specs.Lists.{IsPrefixOf}
 use Rattle.mt_body.specs.Stored.{bytes_of}
 use Rattle.mt_disk.specs.Files.{Files}
 use Rattle.mt_edge.specs.Stream.{LeftAfter, GotMore}
-use Rattle.mt_engine.specs.Current.{EngineState, IsCurrent, Over, told_size}
-use Rattle.mt_engine.specs.History.{Bytes, History}
+use Rattle.mt_opening.specs.Current.{EngineState, IsCurrent, Over, told_size}
+use Rattle.mt_opening.specs.History.{Bytes, History}
 use Rattle.mt_http.specs.Body.{BodyState, Told, first_state, told_from}
 use Rattle.mt_http.specs.Framing.{HasBody, Place, PlaceAt, SpellsHead, body_of, limit_of}
 use Rattle.mt_http.specs.Options.{interim}

@@ -10,9 +10,9 @@ use Rattle.mt_log.specs.LogImage.{chosen_by, payloads_of}
 use Rattle.mt_log.specs.LogState.{LogState, Stands}
 use Rattle.mt_log.proofs.Standing.{log_is}
 use Rattle.mt_log.proofs.Walks.{read_by}
-use Rattle.mt_engine.specs.Current.{EngineState, HasFront, HasNearly, IsBetween, IsCurrent, Over}
-use Rattle.mt_engine.specs.History.{Bytes, HasHistory, History}
-use Rattle.mt_engine.specs.Ready.{EngineGoesOn, EngineIsReady}
+use Rattle.mt_opening.specs.Current.{EngineIsReady, EngineState, HasFront, HasNearly, IsBetween, IsCurrent, Over}
+use Rattle.mt_opening.specs.History.{Bytes, HasHistory, History}
+use Rattle.mt_engine.specs.Ready.{EngineGoesOn}
 use Rattle.mt_model.specs.State.{State}
 use Rattle.mt_runner.specs.Account.{AccountSide, told_time}
 use Rattle.mt_connection.specs.Steps.{MovesOn}

@@ -7,8 +7,8 @@ use Rattle.mt_base.specs.Lists.{IsPrefixOf}
 use Rattle.mt_disk.specs.Files.{Files}
 use Rattle.mt_edge.specs.Stream.{GotMore}
 use Rattle.mt_edge.proofs.Streams.{got_nothing}
-use Rattle.mt_engine.specs.Current.{EngineState, HasNearly, Over}
-use Rattle.mt_engine.specs.History.{Bytes, HasHistory, History, position}
+use Rattle.mt_opening.specs.Current.{EngineState, HasNearly, Over}
+use Rattle.mt_opening.specs.History.{Bytes, HasHistory, History, position}
 use Rattle.mt_error.specs.declared.code.ErrorCode.{ErrorCode}
 use Rattle.mt_error.specs.declared.code.ErrorCode.TheVariants as error
 use Rattle.mt_http.specs.Body.{first_state}

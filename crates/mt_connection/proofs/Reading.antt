@@ -5,7 +5,7 @@ use Rattle.std.proofs.lemmas.Option.{IfSome_then}
 use Rattle.mt_base.specs.Lists.{IsPrefixOf}
 use Rattle.mt_edge.specs.Stream.{LeftAfter, GotMore}
 use Rattle.mt_edge.proofs.Streams.{got_nothing, if_some_before, left_after}
-use Rattle.mt_engine.specs.History.{Bytes}
+use Rattle.mt_opening.specs.History.{Bytes}
 use Rattle.mt_http.specs.Body.{BodyState, Told, first_state, told_from}
 use Rattle.mt_http.specs.Framing.{EndsInHead, HasBadHead, HasLongHead, IsRequestHeadOf, Place, PlaceAt, RequestAt, SpellsHead, limit_of}
 use Rattle.mt_http.specs.Messages.{HasNoRequest, InterimAt}

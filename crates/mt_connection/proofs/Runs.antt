@@ -8,7 +8,7 @@ use Rattle.std.proofs.Math.Bool.{or-false}
 use Rattle.mt_disk.specs.Files.{Files}
 use Rattle.mt_edge.specs.Stream.{LeftAfter, GotMore}
 use Rattle.mt_edge.proofs.Streams.{left_after, got_more, got_nothing, left_all}
-use Rattle.mt_engine.specs.History.{Bytes, History}
+use Rattle.mt_opening.specs.History.{Bytes, History}
 use Rattle.mt_model.specs.CommandStep.{replay}
 use Rattle.mt_model.specs.State.{State}
 use Rattle.mt_model.proofs.Replays.{replay_on}

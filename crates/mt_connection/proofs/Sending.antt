@@ -8,7 +8,7 @@ use Rattle.mt_disk.specs.Files.{Files}
 use Rattle.mt_base.specs.Counts.{NeverFell, Rose}
 use Rattle.mt_edge.specs.Stream.{WritesFront}
 use Rattle.mt_edge.proofs.Streams.{got_nothing}
-use Rattle.mt_engine.specs.History.{Bytes}
+use Rattle.mt_opening.specs.History.{Bytes}
 use Rattle.mt_http.specs.ReplyText.{head_text}
 use Rattle.mt_http.specs.declared.message.Head.{Head}
 use Rattle.mt_log.specs.LogImage.{payloads_of}

@@ -3,8 +3,8 @@ use Rattle.std.proofs.Common.{◌≡◌, ℕ, ◌≤◌, List, [], ◌∷◌, �
 use Rattle.std.specs.List.{flat_map}
 use Rattle.mt_base.specs.Lists.{IsPrefixOf}
 use Rattle.mt_disk.specs.Files.{Files}
-use Rattle.mt_engine.specs.Current.{HasFront}
-use Rattle.mt_engine.specs.History.{Bytes, History}
+use Rattle.mt_opening.specs.Current.{HasFront}
+use Rattle.mt_opening.specs.History.{Bytes, History}
 use Rattle.mt_model.specs.State.{State}
 use Rattle.mt_connection.specs.Transcript.{Exchange, HoldsSince, Setting, Stand, commands_of}
 use Rattle.mt_connection.proofs.Crashes.{front_of_front}

@@ -7,8 +7,8 @@ use Rattle.mt_base.specs.Lists.{IsPrefixOf}
 use Rattle.mt_disk.specs.Files.{Files}
 use Rattle.mt_edge.specs.Stream.{LeftAfter, GotMore}
 use Rattle.mt_edge.proofs.Streams.{got_more, got_nothing}
-use Rattle.mt_engine.specs.Current.{HasNearly}
-use Rattle.mt_engine.specs.History.{Bytes, HasHistory, History}
+use Rattle.mt_opening.specs.Current.{HasNearly}
+use Rattle.mt_opening.specs.History.{Bytes, HasHistory, History}
 use Rattle.mt_http.specs.Framing.{Place, PlaceAt}
 use Rattle.mt_http.specs.Options.{closes, interim}
 use Rattle.mt_http.specs.ReplyText.{reply_text}

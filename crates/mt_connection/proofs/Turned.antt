@@ -4,8 +4,8 @@ use Rattle.std.specs.List.{flat_map}
 use Rattle.mt_base.specs.Counts.{NeverFell}
 use Rattle.mt_disk.specs.Files.{Files}
 use Rattle.mt_edge.specs.Stream.{LeftAfter}
-use Rattle.mt_engine.specs.Current.{HasFront}
-use Rattle.mt_engine.specs.History.{Bytes, History}
+use Rattle.mt_opening.specs.Current.{HasFront}
+use Rattle.mt_opening.specs.History.{Bytes, History}
 use Rattle.mt_model.specs.CommandStep.{replay}
 use Rattle.mt_model.specs.State.{State}
 use Rattle.mt_model.proofs.Replays.{replay_on}

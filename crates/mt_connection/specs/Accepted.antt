@@ -1,7 +1,7 @@
 -- What a message adds, as a step of the life of a store.
 use Rattle.std.specs.Prelude.{◌≡◌, ◌≤◌, ℕ, List, ◌++◌, length, map}
 use Rattle.mt_answer.specs.Answer.{Answer}
-use Rattle.mt_engine.specs.History.{Bytes, History}
+use Rattle.mt_opening.specs.History.{Bytes, History}
 use Rattle.mt_http.specs.declared.message.Head.{Head}
 use Rattle.mt_lives.specs.World.{Accept, Attempt, Steps}
 use Rattle.mt_model.specs.CommandStep.{replay}

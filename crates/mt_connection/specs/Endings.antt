@@ -9,8 +9,8 @@ use Rattle.mt_body.specs.Stored.{pieces_that_fit}
 use Rattle.mt_cond.specs.Conditions.{conditions_of}
 use Rattle.mt_disk.specs.Files.{Files}
 use Rattle.mt_edge.specs.Stream.{LeftAfter, GotMore}
-use Rattle.mt_engine.specs.Current.{HasNearly}
-use Rattle.mt_engine.specs.History.{Bytes, HasHistory, History, position}
+use Rattle.mt_opening.specs.Current.{HasNearly}
+use Rattle.mt_opening.specs.History.{Bytes, HasHistory, History, position}
 use Rattle.mt_error.specs.Refusals.{plain}
 use Rattle.mt_error.specs.declared.code.ErrorCode.{ErrorCode}
 use Rattle.mt_error.specs.declared.code.ErrorCode.TheVariants as error

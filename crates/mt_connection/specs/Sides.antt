@@ -2,8 +2,8 @@
 use Rattle.std.specs.Prelude.{ℕ, Option}
 use Rattle.mt_base.specs.Counts.{NeverFell}
 use Rattle.mt_disk.specs.Files.{Files}
-use Rattle.mt_engine.specs.Current.{EngineState, told_size}
-use Rattle.mt_engine.specs.History.{Bytes, History}
+use Rattle.mt_opening.specs.Current.{EngineState, told_size}
+use Rattle.mt_opening.specs.History.{Bytes, History}
 use Rattle.mt_runner.specs.Account.{AccountSide, NoCountFell, Tasks, account_side}
 
 -- a link at one moment: what is left to be read and what was written, where it tells them, and how often each failed

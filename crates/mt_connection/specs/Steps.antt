@@ -7,8 +7,8 @@ use Rattle.mt_body.specs.Stored.{bytes_of, is_stored}
 use Rattle.mt_disk.specs.CrashModel.{LeavesOnly}
 use Rattle.mt_disk.specs.Files.{Files}
 use Rattle.mt_edge.specs.Stream.{GotMore, LeftAfter, WritesFront}
-use Rattle.mt_engine.specs.Current.{EngineState, IsBetween, Over}
-use Rattle.mt_engine.specs.History.{Bytes, History}
+use Rattle.mt_opening.specs.Current.{EngineState, IsBetween, Over}
+use Rattle.mt_opening.specs.History.{Bytes, History}
 use Rattle.mt_http.specs.Framing.{Place, PlaceAt, ReceivesHead, SpellsHead}
 use Rattle.mt_http.specs.Options.{interim, interim_line, wants_interim}
 use Rattle.mt_http.specs.ReplyText.{text_with}

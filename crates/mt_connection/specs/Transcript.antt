@@ -7,8 +7,8 @@ use Rattle.mt_answer.specs.Whole.{answer_of}
 use Rattle.mt_base.specs.Counts.{RoseBy}
 use Rattle.mt_disk.specs.Files.{Files}
 use Rattle.mt_edge.specs.Stream.{LeftAfter, GotMore}
-use Rattle.mt_engine.specs.Current.{HasFront}
-use Rattle.mt_engine.specs.History.{Bytes, History}
+use Rattle.mt_opening.specs.Current.{HasFront}
+use Rattle.mt_opening.specs.History.{Bytes, History}
 use Rattle.mt_http.specs.Framing.{RequestAt, body_of}
 use Rattle.mt_http.specs.Options.{closes, interim}
 use Rattle.mt_http.specs.ReplyText.{has_no_body, reply_text}

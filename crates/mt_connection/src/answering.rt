@@ -3,9 +3,9 @@ ghost use Rattle.std.specs.Prelude.{◌≡◌, ◌≢◌, ℕ, false, true, is_s
 ghost use Rattle.mt_runner.specs.Account.{Tasks, told_time};
 ghost use Rattle.mt_connection.specs.Sides.{side_of, sides};
 ghost use Rattle.mt_connection.specs.Steps.{MovesOn, TakesMessage, plain};
-ghost use Rattle.mt_engine.specs.Current.{Over};
-ghost use Rattle.mt_engine.specs.History.{Bytes, History};
-ghost use Rattle.mt_engine.specs.Ready.{EngineGoesOn, EngineIsReady};
+ghost use Rattle.mt_opening.specs.Current.{EngineIsReady, Over};
+ghost use Rattle.mt_opening.specs.History.{Bytes, History};
+ghost use Rattle.mt_engine.specs.Ready.{EngineGoesOn};
 ghost use Rattle.mt_model.specs.State.{State};
 
 use crate::end::{ConnectionEnd, Step};

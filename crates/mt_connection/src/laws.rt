@@ -1,6 +1,6 @@
 //! Laws: what the bytes of a source say of the end of its connection is one thing, and what a message adds is a step of the life of a store.
 ghost use Rattle.std.specs.Prelude.{ℕ, Bool};
-ghost use Rattle.mt_engine.specs.History.{Bytes};
+ghost use Rattle.mt_opening.specs.History.{Bytes};
 ghost use Rattle.mt_model.specs.State.{State};
 ghost use Rattle.mt_connection.specs.Accepted.{RequestsAreSteps, RequestsKeepChildren};
 ghost use Rattle.mt_connection.specs.Outcomes.{OutcomeIsOne};

@@ -7,10 +7,10 @@ use Rattle.mt_disk.specs.CrashModel.{LeavesOnly, OnlyRead}
 use Rattle.mt_disk.specs.Files.{Files}
 use Rattle.mt_disk.proofs.Moments.{joins, leaves_now}
 use Rattle.mt_disk.proofs.Readings.{reads_leave, reads_none, reads_on}
-use Rattle.mt_engine.specs.Current.{HasFront}
-use Rattle.mt_engine.specs.History.{Bytes, HasHistory, History}
-use Rattle.mt_engine.specs.Looking.{LogIsThere, OnlyReads}
-use Rattle.mt_engine.proofs.Looks.{there_on}
+use Rattle.mt_opening.specs.Current.{HasFront}
+use Rattle.mt_opening.specs.History.{Bytes, HasHistory, History}
+use Rattle.mt_opening.specs.Looking.{LogIsThere, OnlyReads}
+use Rattle.mt_opening.proofs.Looks.{there_on}
 use Rattle.mt_log.specs.LogImage.{SameLog}
 use Rattle.mt_log.specs.LogState.{LogState, told}
 use Rattle.mt_model.specs.State.{State, first_state}

@@ -9,8 +9,8 @@ use Rattle.mt_disk.specs.CrashModel.{LeavesOnly}
 use Rattle.mt_disk.specs.Files.{Files, contents}
 use Rattle.mt_disk.specs.declared.disk.FileNo.{FileNo}
 use Rattle.mt_disk.proofs.Moments.{leaves_now}
-use Rattle.mt_engine.specs.History.{Bytes, HasHistory, History, Leads}
-use Rattle.mt_engine.specs.Opening.{IsReadable}
+use Rattle.mt_opening.specs.History.{Bytes, HasHistory, History, Leads}
+use Rattle.mt_opening.specs.Opening.{IsReadable}
 use Rattle.mt_log.specs.LogImage.{Fit, IsLogOf, LogFault, OldVersion, SameLog, chosen_file, head_of, is_old_log, log_in, magic_of, payloads, payloads_any, payloads_in, payloads_of, record_of}
 use Rattle.mt_log.specs.LogState.{LogState, Stands}
 use Rattle.mt_model.specs.State.{State, first_state}

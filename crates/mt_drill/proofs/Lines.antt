@@ -5,9 +5,9 @@ use Rattle.std.specs.Option.{ForSome}
 use Rattle.std.proofs.lemmas.List.{append-nil, length-map, take_all}
 use Rattle.mt_body.specs.Stored.{IsStored, bytes_of}
 use Rattle.mt_disk.specs.Files.{Files}
-use Rattle.mt_engine.specs.Current.{EngineState, IsCurrent}
-use Rattle.mt_engine.specs.History.{Bytes, History, position}
-use Rattle.mt_engine.proofs.Held.{told_now}
+use Rattle.mt_opening.specs.Current.{EngineState, IsCurrent}
+use Rattle.mt_opening.specs.History.{Bytes, History, position}
+use Rattle.mt_opening.proofs.Held.{told_now}
 use Rattle.mt_engine.proofs.Objects.{jobs_read}
 use Rattle.mt_gen.specs.Messages.{job_number}
 use Rattle.mt_log.specs.LogImage.{payloads_of}

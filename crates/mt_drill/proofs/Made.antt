@@ -5,8 +5,8 @@ use Rattle.std.specs.Option.{ForSome}
 use Rattle.mt_disk.specs.CrashModel.{IsAtRest, LeavesOnly}
 use Rattle.mt_disk.specs.Files.{Files}
 use Rattle.mt_disk.proofs.Moments.{joins, leaves_now, started, weakens}
-use Rattle.mt_engine.specs.Current.{HasFront}
-use Rattle.mt_engine.specs.History.{Bytes, HasHistory, History}
+use Rattle.mt_opening.specs.Current.{HasFront}
+use Rattle.mt_opening.specs.History.{Bytes, HasHistory, History}
 use Rattle.mt_log.specs.LogImage.{SameLog}
 use Rattle.mt_model.specs.State.{State, first_state}
 use Rattle.mt_server.proofs.Opened.{same_history, some_files}

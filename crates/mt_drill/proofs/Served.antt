@@ -4,8 +4,8 @@ use Rattle.std.specs.Prelude.{codes, is_some, length, sum_by}
 use Rattle.mt_disk.specs.CrashModel.{LeavesOnly}
 use Rattle.mt_disk.specs.Files.{Files}
 use Rattle.mt_disk.proofs.Moments.{weakens}
-use Rattle.mt_engine.specs.Current.{HasFront, IsBetween}
-use Rattle.mt_engine.specs.History.{Bytes, HasHistory, History}
+use Rattle.mt_opening.specs.Current.{HasFront, IsBetween}
+use Rattle.mt_opening.specs.History.{Bytes, HasHistory, History}
 use Rattle.mt_gen.specs.Messages.{drill_bytes}
 use Rattle.mt_log.specs.LogImage.{payloads_of, record_head}
 use Rattle.mt_model.specs.State.{first_state}

@@ -2,7 +2,7 @@
 use Rattle.std.specs.Prelude.{◌≡◌, ℕ, ◌+◌, ◌-◌, ◌==◌, ◌&&◌, nat_eq, Bool, true, List, [], ◌∷◌, ◌++◌, length, take, codes, Option, Some, None, if◌then◌else◌}
 use Rattle.std.specs.Fmt.{decimal}
 use Rattle.std.specs.List.{find, flat_map, range_with_len, starts_with}
-use Rattle.mt_engine.specs.History.{Bytes, History, position}
+use Rattle.mt_opening.specs.History.{Bytes, History, position}
 use Rattle.mt_gen.specs.Messages.{job_number}
 use Rattle.mt_model.specs.CommandStep.{replay}
 use Rattle.mt_model.specs.Finished.{is_finished}

@@ -1,7 +1,7 @@
 -- What the session of a drill does.
 use Rattle.std.specs.Prelude.{◌≡◌, ℕ, Bool, true, List, [], ◌∷◌, codes, Option, Some, None}
 use Rattle.mt_disk.specs.Files.{Files}
-use Rattle.mt_engine.specs.History.{Bytes, History}
+use Rattle.mt_opening.specs.History.{Bytes, History}
 use Rattle.mt_model.specs.State.{first_state}
 use Rattle.mt_runner.specs.Account.{Tasks, account_side}
 use Rattle.mt_connection.specs.Sides.{LinkSide, joined, link_side}

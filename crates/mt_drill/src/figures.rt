@@ -3,7 +3,7 @@ ghost use Rattle.std.specs.Prelude.{◌≡◌, ◌<◌, ◌++◌, length, true, 
 ghost use Rattle.std.specs.List.{find};
 ghost use Rattle.std.specs.Option.{ForSome};
 ghost use Rattle.mt_body.specs.Stored.{IsStored, bytes_of};
-ghost use Rattle.mt_engine.specs.Looking.{LogIsThere, OnlyReads};
+ghost use Rattle.mt_opening.specs.Looking.{LogIsThere, OnlyReads};
 ghost use Rattle.mt_gen.specs.Messages.{job_number};
 ghost use Rattle.mt_log.specs.LogState.{told};
 ghost use Rattle.mt_model.specs.Bodies.{OfJob};

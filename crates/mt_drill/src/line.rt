@@ -3,10 +3,9 @@ ghost use Rattle.std.specs.Prelude.{◌≡◌, Err, IfOk};
 ghost use Rattle.std.specs.Option.{ForSome};
 ghost use Rattle.mt_base.specs.Counts.{NeverFell, Rose};
 ghost use Rattle.mt_disk.specs.CrashModel.{IsAtRest, LeavesOnly};
-ghost use Rattle.mt_engine.specs.Current.{IsCurrent};
-ghost use Rattle.mt_engine.specs.History.{Bytes, HasHistory, History};
-ghost use Rattle.mt_engine.specs.Looking.{OnlyReads};
-ghost use Rattle.mt_engine.specs.Ready.{EngineIsReady};
+ghost use Rattle.mt_opening.specs.Current.{EngineIsReady, IsCurrent};
+ghost use Rattle.mt_opening.specs.History.{Bytes, HasHistory, History};
+ghost use Rattle.mt_opening.specs.Looking.{OnlyReads};
 ghost use Rattle.mt_log.specs.LogImage.{Fit, SameLog};
 ghost use Rattle.mt_model.specs.State.{State, first_state};
 ghost use Rattle.mt_drill.specs.DrillLine.{IsLineOf};
@@ -15,7 +14,8 @@ use crate::end::Stopped;
 use crate::figures::{finished_job, put_counts, put_figures};
 use crate::text::put_words;
 use mt_disk::Disk;
-use mt_engine::{Engine, OpenEnd};
+use mt_engine::Engine;
+use mt_opening::OpenEnd;
 use std::alloc::Global;
 
 /// As many bytes as a log may have, unless words say so. That of a drill of 10,000 objects has some 3,000,000.

@@ -3,16 +3,17 @@ ghost use Rattle.std.specs.Prelude.{◌≡◌, ◌⊎◌, [], is_some};
 ghost use Rattle.std.specs.Option.{ForSome};
 ghost use Rattle.mt_base.specs.Counts.{NeverFell, Rose};
 ghost use Rattle.mt_disk.specs.CrashModel.{IsAtRest, LeavesOnly};
-ghost use Rattle.mt_engine.specs.History.{HasHistory};
-ghost use Rattle.mt_engine.specs.Opening.{IsReadable, IsRefused, KeepsLogs};
-ghost use Rattle.mt_engine.specs.declared.opening.Unreadable.{Unreadable};
+ghost use Rattle.mt_opening.specs.History.{HasHistory};
+ghost use Rattle.mt_opening.specs.Opening.{IsReadable, IsRefused, KeepsLogs};
+ghost use Rattle.mt_opening.specs.declared.opening.Unreadable.{Unreadable};
 ghost use Rattle.mt_log.specs.LogImage.{Fit, SameLog};
 ghost use Rattle.mt_model.specs.State.{first_state};
 ghost use Rattle.mt_drill.specs.Logs.{HasNone, HasRecord};
 
 use crate::line::LOG_LIMIT;
 use mt_disk::Disk;
-use mt_engine::{Engine, OpenEnd, Unreadable};
+use mt_engine::Engine;
+use mt_opening::{OpenEnd, Unreadable};
 use std::alloc::Global;
 
 /// The bytes of a log without a record.

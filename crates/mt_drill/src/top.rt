@@ -5,10 +5,10 @@ ghost use Rattle.mt_base.specs.Counts.{Rose};
 ghost use Rattle.mt_disk.specs.CrashModel.{IsAtRest, LeavesOnly};
 ghost use Rattle.mt_disk.specs.Files.{Files};
 ghost use Rattle.mt_edge.specs.Stream.{GotMore};
-ghost use Rattle.mt_engine.specs.Current.{HasFront};
-ghost use Rattle.mt_engine.specs.History.{Bytes, HasHistory, History};
-ghost use Rattle.mt_engine.specs.Opening.{IsReadable, IsRefused, KeepsLogs};
-ghost use Rattle.mt_engine.specs.declared.opening.Unreadable.{Unreadable};
+ghost use Rattle.mt_opening.specs.Current.{HasFront};
+ghost use Rattle.mt_opening.specs.History.{Bytes, HasHistory, History};
+ghost use Rattle.mt_opening.specs.Opening.{IsReadable, IsRefused, KeepsLogs};
+ghost use Rattle.mt_opening.specs.declared.opening.Unreadable.{Unreadable};
 ghost use Rattle.mt_log.specs.LogImage.{Fit, SameLog};
 ghost use Rattle.mt_model.specs.State.{State, first_state};
 ghost use Rattle.mt_server.specs.Lines.{SaysLine, line_of};
@@ -23,7 +23,7 @@ use crate::refusal::{line_for, say};
 use crate::session::serve_drill;
 use mt_disk::Disk;
 use mt_edge::{Clock, Sink, write_all};
-use mt_engine::Unreadable;
+use mt_opening::Unreadable;
 use std::alloc::Global;
 
 // Makes the account of a drill on an empty log and runs its job: the line of it.

@@ -20,9 +20,9 @@ use Rattle.mt_types.specs.declared.body.Body.{Body}
 use Rattle.mt_types.specs.declared.command.Command.{Command}
 use Rattle.mt_types.specs.declared.refusal.Refusal.{Refusal}
 use Rattle.mt_account.specs.Taken.{IsTaken}
+use Rattle.mt_opening.specs.Current.{EngineState, IsBetween, IsWriting}
+use Rattle.mt_opening.specs.History.{Bytes, HasHistory, History}
 use Rattle.mt_engine.specs.Accepting.{Reaches, Takes}
-use Rattle.mt_engine.specs.Current.{EngineState, IsBetween, IsWriting}
-use Rattle.mt_engine.specs.History.{Bytes, HasHistory, History}
 use Rattle.mt_engine.specs.declared.engine.Accepted.{Accepted}
 use Rattle.mt_engine.specs.declared.engine.Accepted.TheVariants as accepted
 use Rattle.mt_engine.proofs.Ends.{command_leaves, goes_on_leaves, only_before}
@@ -54,15 +54,6 @@ module _ {D : Type 0} (moment : D → ℕ) (left_since : D → ℕ → Files →
 pub none_refused : (refusal : Option Refusal) (r : Result (Unit {0}) Refusal) (u : Unit {0}) → r ≡ Ok u → r ≡ answer refusal → refusal ≡ None
 none_refused None r u is so = refl
 none_refused (Some refusal) r u is so = absurd (cc (is, so))
-
--- what an answer says of the refusal
-pub none_answered : (r : Option Refusal) → Ok tt ≡ answer r → r ≡ None
-none_answered None is = refl
-none_answered (Some x) is = cc
-
-pub some_answered : (r : Option Refusal) (x : Refusal) → Err x ≡ answer r → r ≢ None
-some_answered None x is = cc
-some_answered (Some y) x is = λ e. none-some y (sym e)
 
 -- how long a command is, whatever its bodies are
 pub size_is : (c : Command Body) → length (spelling c) ≡ spelled_size c

@@ -27,10 +27,10 @@ use Rattle.mt_types.specs.declared.command.Archive.{Archive}
 use Rattle.mt_types.specs.declared.job.Job.{Job}
 use Rattle.mt_types.specs.declared.live.LiveText.{LiveText}
 use Rattle.mt_types.specs.declared.live.LiveText.TheVariants as live
+use Rattle.mt_opening.specs.Current.{EngineState, IsWriting}
+use Rattle.mt_opening.specs.History.{Bytes, HasHistory, History}
 use Rattle.mt_engine.specs.Archiving.{AreTextsOf, ArchiveGoes, MoreIn, PlacesText, StoresText, TextGoes, TextIn, ended_by, texts_size}
 use Rattle.mt_engine.specs.Accepting.{StoresBody}
-use Rattle.mt_engine.specs.Current.{EngineState, IsWriting}
-use Rattle.mt_engine.specs.History.{Bytes, HasHistory, History}
 use Rattle.mt_engine.specs.Ready.{EngineStays, RunGoesOn, RunIsReady}
 use Rattle.mt_engine.specs.declared.archiving.Archiving.TheVariants as archiving
 use Rattle.mt_engine.proofs.Stores.{stores_body}

@@ -20,10 +20,10 @@ use Rattle.mt_types.specs.Values.{command_with}
 use Rattle.mt_types.specs.declared.body.Body.{Body}
 use Rattle.mt_types.specs.declared.command.Command.{Command}
 use Rattle.mt_account.specs.Taken.{IsTaken}
+use Rattle.mt_opening.specs.Current.{EngineState, IsBetween, IsCurrent, IsWriting}
+use Rattle.mt_opening.specs.History.{Bytes, HasHistory, History, IsHistoryOf}
+use Rattle.mt_opening.proofs.Held.{Holding, current_at, holding_command, holding_in, told_now}
 use Rattle.mt_engine.specs.Accepting.{Takes, with_command, with_run}
-use Rattle.mt_engine.specs.Current.{EngineState, IsBetween, IsCurrent, IsWriting}
-use Rattle.mt_engine.specs.History.{Bytes, HasHistory, History, IsHistoryOf}
-use Rattle.mt_engine.proofs.Held.{Holding, current_at, holding_command, holding_in, told_now}
 
 -- a front of a history, and of one with more
 pub all_of : (h : History) → IsPrefixOf h h

@@ -1,14 +1,6 @@
 pub mod Accepts
 pub mod Archives
-pub mod Bodies
 pub mod Ends
-pub mod Held
-pub mod Histories
-pub mod Loading
-pub mod Looks
 pub mod Objects
-pub mod Openings
 pub mod Runs
 pub mod Stores
-pub mod Stretches
-pub mod Taking

@@ -22,10 +22,10 @@ use Rattle.mt_types.specs.declared.job.Job.{Job}
 use Rattle.mt_types.specs.declared.object.Entry.{Entry}
 use Rattle.mt_types.specs.declared.object.Entry.TheVariants as entry
 use Rattle.mt_types.specs.declared.object.Object.{Object}
-use Rattle.mt_engine.specs.Current.{EngineState, IsCurrent, Serves}
-use Rattle.mt_engine.specs.History.{Bytes, History}
+use Rattle.mt_opening.specs.Current.{EngineState, IsCurrent, Serves}
+use Rattle.mt_opening.specs.History.{Bytes, History}
+use Rattle.mt_opening.proofs.Held.{told_now}
 use Rattle.mt_engine.specs.Reading.{HasObjects, StandsFor}
-use Rattle.mt_engine.proofs.Held.{told_now}
 
 module _ (P : Body → Type 0) where
   of_object : (e : Entry Body) → OfEntry P e → IfSome (object_in (Some e)) (λ o. P o.body)

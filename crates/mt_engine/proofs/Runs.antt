@@ -13,8 +13,8 @@ use Rattle.mt_model.specs.State.{State}
 use Rattle.mt_model.proofs.RowsWith.{is_some-map}
 use Rattle.mt_types.specs.declared.body.Body.{Body}
 use Rattle.mt_types.specs.declared.command.Command.{Command}
+use Rattle.mt_opening.specs.Current.{EngineState}
 use Rattle.mt_engine.specs.Accepting.{Drops, Ends, with_command, with_run}
-use Rattle.mt_engine.specs.Current.{EngineState}
 use Rattle.mt_engine.specs.declared.publish.RunEnd.{RunEnd}
 use Rattle.mt_engine.specs.declared.publish.RunEnd.TheVariants as ended
 

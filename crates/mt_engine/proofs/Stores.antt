@@ -16,10 +16,10 @@ use Rattle.mt_body.specs.declared.pieces.Storing.{Storing}
 use Rattle.mt_body.specs.declared.pieces.Storing.TheVariants as storing
 use Rattle.mt_model.specs.State.{State}
 use Rattle.mt_types.specs.declared.body.Body.{Body}
+use Rattle.mt_opening.specs.Current.{EngineState, IsCurrent, IsWriting}
+use Rattle.mt_opening.specs.History.{Bytes, History}
+use Rattle.mt_opening.proofs.Held.{current_at, holding_now, told_now}
 use Rattle.mt_engine.specs.Accepting.{PartIn, StoredIn, StoresBody}
-use Rattle.mt_engine.specs.Current.{EngineState, IsCurrent, IsWriting}
-use Rattle.mt_engine.specs.History.{Bytes, History}
-use Rattle.mt_engine.proofs.Held.{current_at, holding_now, told_now}
 
 -- pieces behind pieces
 all_pieces : (xs ys : List (List ℕ)) → list_all is_piece xs ≡ true → list_all is_piece ys ≡ true → list_all is_piece (xs ++ ys) ≡ true

@@ -18,8 +18,8 @@ use Rattle.mt_model.specs.State.{State}
 use Rattle.mt_types.specs.declared.body.Body.{Body}
 use Rattle.mt_types.specs.declared.command.Command.{Command}
 use Rattle.mt_types.specs.declared.limits.TheConstants.{MOST_COMMANDS}
-use Rattle.mt_engine.specs.Current.{EngineState, IsCurrent, IsWriting}
-use Rattle.mt_engine.specs.History.{Bytes, History}
+use Rattle.mt_opening.specs.Current.{EngineState, IsCurrent, IsWriting}
+use Rattle.mt_opening.specs.History.{Bytes, History}
 use Rattle.mt_engine.specs.declared.engine.Accepted.{Accepted}
 use Rattle.mt_engine.specs.declared.engine.Accepted.TheVariants as accepted
 use Rattle.mt_engine.specs.declared.publish.RunEnd.{RunEnd}

@@ -17,8 +17,8 @@ use Rattle.mt_types.specs.Limits.{is_placed}
 use Rattle.mt_types.specs.Values.{archive_with}
 use Rattle.mt_types.specs.declared.body.Body.{Body}
 use Rattle.mt_types.specs.declared.command.Archive.{Archive}
-use Rattle.mt_engine.specs.Current.{EngineState, IsWriting}
-use Rattle.mt_engine.specs.History.{Bytes, HasHistory, History}
+use Rattle.mt_opening.specs.Current.{EngineState, IsWriting}
+use Rattle.mt_opening.specs.History.{Bytes, HasHistory, History}
 use Rattle.mt_engine.specs.Ready.{EngineStays, RunGoesOn}
 use Rattle.mt_engine.specs.declared.archiving.Archiving.{Archiving}
 use Rattle.mt_engine.specs.declared.archiving.Archiving.TheVariants as archiving

@@ -1,9 +1,4 @@
 pub mod Accepting
 pub mod Archiving
-pub mod Current
-pub mod History
-pub mod Looking
-pub mod Opening
-pub mod Places
 pub mod Reading
 pub mod Ready

@@ -11,8 +11,8 @@ use Rattle.mt_path.specs.AccountPath.{AccountPath}
 use Rattle.mt_types.specs.Values.{object_with}
 use Rattle.mt_types.specs.declared.body.Body.{Body}
 use Rattle.mt_types.specs.declared.object.Object.{Object}
-use Rattle.mt_engine.specs.Current.{EngineState}
-use Rattle.mt_engine.specs.History.{Bytes, History}
+use Rattle.mt_opening.specs.Current.{EngineState}
+use Rattle.mt_opening.specs.History.{Bytes, History}
 
 -- These are the bytes of the body: wherever the state has an object of this body, the history has it with these bytes.
 abbrev pub StandsFor : EngineState → State Bytes → History → Body → Bytes → Type 0

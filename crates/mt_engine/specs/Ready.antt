@@ -4,14 +4,7 @@ use Rattle.mt_base.specs.Counts.{NeverFell}
 use Rattle.mt_disk.specs.Files.{Files}
 use Rattle.mt_log.specs.LogState.{Stands}
 use Rattle.mt_log.specs.RunState.{RunState, Running}
-use Rattle.mt_engine.specs.Current.{EngineState, Serves}
-
--- an open engine of this version stands over a disk, and has a history where the disk tells what it holds
-pub record EngineIsReady {D : Type 0} (seen : D → Option Files) (may_leave : D → Files → Type 0) (disk : D) (engine : EngineState) : Type 0 where
-  pub stands : Stands seen may_leave disk engine.log
-  pub is_open : engine.log.closed ≡ false
-  pub version : engine.log.is_old ≡ false
-  pub serves : Serves (seen disk) engine
+use Rattle.mt_opening.specs.Current.{EngineState, Serves}
 
 -- What each call keeps: where the engine is open behind it, a disk that told what it held tells it still, and the log's version and
 -- limit are as they were. The count of the disk's faults doesn't fall.

@@ -18,9 +18,9 @@ ghost use Rattle.mt_types.specs.Values.{command_with};
 ghost use Rattle.mt_types.specs.declared.command.Command.{Command};
 ghost use Rattle.mt_types.specs.declared.limits.TheConstants.{MOST_COMMANDS};
 ghost use Rattle.mt_account.specs.Taken.{IsTaken};
+ghost use Rattle.mt_opening.specs.Current.{IsBetween, IsCurrent, IsWriting};
+ghost use Rattle.mt_opening.specs.History.{Bytes, HasHistory, History};
 ghost use Rattle.mt_engine.specs.Accepting.{Accepts, Decided, Drops, Ends, HasRoomFor, Reaches, StoresBody, Takes, closed};
-ghost use Rattle.mt_engine.specs.Current.{IsBetween, IsCurrent, IsWriting};
-ghost use Rattle.mt_engine.specs.History.{Bytes, HasHistory, History};
 ghost use Rattle.mt_engine.specs.Ready.{EngineStays, RunGoesOn, RunIsReady};
 
 use crate::publish::{RunEnd, end_log_run, publish};
@@ -48,7 +48,7 @@ pub struct Engine {
 }
 
 impl Model for Engine {
-    ghost use Rattle.mt_engine.specs.Current.{EngineState};
+    ghost use Rattle.mt_opening.specs.Current.{EngineState};
 
     ghost Value = { EngineState };
 

@@ -5,17 +5,14 @@ ghost use Rattle.mt_base.specs.Counts.{NeverFell, Rose};
 ghost use Rattle.mt_disk.specs.CrashModel.{IsAtRest, LeavesOnly};
 ghost use Rattle.mt_log.specs.LogImage.{Fit, SameLog};
 ghost use Rattle.mt_model.specs.State.{State};
-ghost use Rattle.mt_engine.specs.Current.{IsCurrent};
-ghost use Rattle.mt_engine.specs.History.{Bytes, HasHistory, History};
-ghost use Rattle.mt_engine.specs.Opening.{IsReadable, IsRefused, KeepsLogs};
-ghost use Rattle.mt_engine.specs.Ready.{EngineIsReady};
-ghost use Rattle.mt_engine.specs.declared.opening.Unreadable.{Unreadable};
+ghost use Rattle.mt_opening.specs.Current.{EngineIsReady, IsCurrent};
+ghost use Rattle.mt_opening.specs.History.{Bytes, HasHistory, History};
+ghost use Rattle.mt_opening.specs.Opening.{IsReadable, IsRefused, KeepsLogs};
+ghost use Rattle.mt_opening.specs.declared.opening.Unreadable.{Unreadable};
 
 use crate::engine::Engine;
-use crate::load::load;
-use crate::opening::{OpenEnd, refused};
 use mt_disk::Disk;
-use mt_log::Log;
+use mt_opening::{OpenEnd, open_log};
 use std::alloc::Global;
 
 impl Engine {
@@ -39,12 +36,9 @@ impl Engine {
         ensures disk { IsErrOf result OpenEnd.Disk → Rose (D.faults disk.old) (D.faults disk.new) }
         ensures faults { NeverFell (D.faults disk.old) (D.faults disk.new) }
     {
-        match Log::open(alloc, disk, limit) {
-            Ok(log) => match load(alloc, &log, disk) {
-                Ok(account) => Ok(Engine { log, account }),
-                Err(end) => Err(end),
-            },
-            Err(error) => Err(refused(error)),
+        match open_log(alloc, disk, limit) {
+            Ok((log, account)) => Ok(Engine { log, account }),
+            Err(end) => Err(end),
         }
     }
 }

@@ -5,9 +5,9 @@ ghost use Rattle.mt_body.specs.Sending.{Sends};
 ghost use Rattle.mt_body.specs.Stored.{bytes_of};
 ghost use Rattle.mt_log.specs.LogState.{told};
 ghost use Rattle.mt_model.specs.State.{State};
-ghost use Rattle.mt_engine.specs.Current.{IsCurrent};
-ghost use Rattle.mt_engine.specs.History.{Bytes, History};
-ghost use Rattle.mt_engine.specs.Looking.{BodyIsThere, OnlyLooks, OnlyReads};
+ghost use Rattle.mt_opening.specs.Current.{IsCurrent};
+ghost use Rattle.mt_opening.specs.History.{Bytes, History};
+ghost use Rattle.mt_opening.specs.Looking.{BodyIsThere, OnlyLooks, OnlyReads};
 ghost use Rattle.mt_engine.specs.Reading.{ReadsPart, SendsPart};
 
 use crate::engine::Engine;

@@ -40,21 +40,6 @@ fn task_root<B>(alloc: Global, kept: &FedJob<B>, phase: u32, place: u64) -> Resu
     }
 }
 
-// Feeds so many items more to a phase of a job.
-pub(crate) fn feed_all(
-    sched: &mut Sched,
-    job: u64,
-    phase: u32,
-    count: usize,
-) -> Result<(), AllocError>
-    ensures { OnOk result (sched.new ≡ with_plan sched.old job (λ plan. grown plan phase count)) }
-{
-    for _item in 0..count {
-        sched.feed(job, phase)?;
-    }
-    Ok(())
-}
-
 // A task of a job is committed with this entry: in its trace, in its queue and in what is kept beside it.
 pub(crate) fn enter<B: Drop>(
     alloc: Global,
@@ -81,7 +66,7 @@ pub(crate) fn enter<B: Drop>(
     let count = count_of(&entry.outcome);
     kept.enter(entry)?;
     sched.commit(&task)?;
-    feed_all(sched, number, phase + 1, count)?;
+    sched.feed(number, phase + 1, count as u64)?;
     match sched.get(number) {
         Some(queue) => kept.open(alloc, queue),
         None => Ok(()),

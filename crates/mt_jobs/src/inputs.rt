@@ -88,7 +88,7 @@ fn add_line<B: Duplicate>(
         InputLine::Named(path) => match tree.object_at(path) {
             Some(object) => {
                 add_input(alloc, job, path, &object.body)?;
-                sched.feed(job.number, 0)
+                sched.feed(job.number, 0, 1)
             }
             None => add_missing(alloc, job, line),
         },

@@ -9,7 +9,7 @@ ghost use Rattle.mt_sched.specs.PlanOfJob.{kinds_of};
 ghost use Rattle.mt_sched.specs.PlanSteps.{first_plan, grown};
 ghost use Rattle.mt_jobs.specs.Listed.{is_above_last, is_first_number, is_next_position};
 
-use crate::commit::{enter, feed_all};
+use crate::commit::enter;
 use crate::jobs::{Jobs, find};
 use crate::making::push_job;
 use crate::refusals::are_too_many;
@@ -56,7 +56,7 @@ fn push_listed<B: Drop>(
     let number = kept.job.number;
     let count = kept.job.inputs.len();
     push_job(alloc, jobs, sched, running, kept)?;
-    feed_all(sched, number, 0, count)
+    sched.feed(number, 0, count as u64)
 }
 
 impl<B> Jobs<B> {

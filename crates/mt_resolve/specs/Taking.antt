@@ -1,5 +1,6 @@
 -- The records of a commit, taken one after another.
 use Rattle.std.specs.Prelude.{◌≡◌, ℕ, ◌<◌, ⊤, Bool, true, false, List, [], length, take, Option, Some, None, Result, Ok, Err}
+use Rattle.std.specs.List.{list_all}
 use Rattle.mt_types.specs.declared.limits.TheConstants.{NUMBERS_A_COMMAND}
 use Rattle.mt_types.specs.declared.task.Fate.{Fate}
 use Rattle.mt_types.specs.declared.task.Fate.TheVariants as fate
@@ -16,6 +17,17 @@ module _ {B : Type 0} where
   is_output (task_record.Emit place reducer body) = true
   is_output (task_record.Keep place body) = false
   is_output (task_record.Ref name) = true
+
+  -- a record is an output without a place, which is never refused
+  abbrev pub is_fresh : TaskRecord B → Bool
+  is_fresh (task_record.Emit None reducer body) = true
+  is_fresh (task_record.Emit (Some place) reducer body) = false
+  is_fresh (task_record.Keep place body) = false
+  is_fresh (task_record.Ref name) = false
+
+  -- so is each of these
+  abbrev pub are_fresh : List (TaskRecord B) → Bool
+  are_fresh records = list_all is_fresh records
 
   -- how far the records have been taken, over these rows
   abbrev pub taken_of : Rows B → Taking B → Taken B
@@ -37,9 +49,13 @@ module _ {B : Type 0} where
     pub parents : with_parents t.rows (fresh_place c t) c.moment ≡ t.rows
     pub few : t.made < NUMBERS_A_COMMAND
 
-  -- so it is after each front of the records that is taken
+  -- so it is after each front of the records that is taken, from here
+  abbrev pub AreReadyFrom : Committing → Taken B → List (TaskRecord B) → Type 0
+  AreReadyFrom c start records = (n : ℕ) (t : Taken B) → n < length records → take_records c (take n records) (Ok start) ≡ Ok t → IsReady c t
+
+  -- and from the beginning
   abbrev pub AreReady : Committing → Rows B → List (TaskRecord B) → Type 0
-  AreReady c rows records = (n : ℕ) (t : Taken B) → n < length records → take_records c (take n records) (Ok (first_taken rows)) ≡ Ok t → IsReady c t
+  AreReady c rows records = AreReadyFrom c (first_taken rows) records
 
   -- a fate has its records ready
   abbrev pub HasReady : Committing → Rows B → Fate B → Type 0

@@ -1,6 +1,7 @@
 //! The paths in the area of jobs.
-ghost use Rattle.std.specs.Prelude.{◌≡◌, ◌<◌, ◌^◌, ◌++◌, IfOk};
+ghost use Rattle.std.specs.Prelude.{◌≡◌, ◌<◌, ◌^◌, ◌++◌, ◌∷◌, [], codes, IfOk};
 ghost use Rattle.mt_ident.specs.Identifiers.{identifier_text};
+ghost use Rattle.mt_path.specs.Keys.{key_bytes};
 ghost use Rattle.mt_model.specs.Names.{anonymous_place, in_job_folder, job_folder, job_name, job_stor, output_prefix};
 ghost use Rattle.mt_resolve.specs.Committing.{IsFolderName};
 
@@ -15,6 +16,10 @@ const JOB: u8 = 2;
 
 /// The kind of the identifiers of outputs.
 const OUTPUT: u8 = 3;
+
+/// How many bytes a key of an output has at most beside its root: two identifiers, `stor`, the number of a phase, and what stands between
+/// them.
+const BESIDE_ROOT: usize = 36 + 1 + 36 + 6 + 1 + 10 + 1;
 
 // A job's name.
 fn name_of_job(alloc: Global, job: u64) -> Result<Bytes, AllocError>
@@ -52,18 +57,28 @@ pub fn job_stor(alloc: Global, job: u64) -> Result<Path, AllocError>
     in_job_folder(alloc, job, "stor")
 }
 
-// The name of an output without a place.
-fn output_name(alloc: Global, c: &Committing, number: u64) -> Result<Bytes, AllocError>
-    requires { number < 2 ^ 62 }
-    ensures { IfOk result (λ b. b ≡ output_prefix c.now.root c.now.phase ++ identifier_text 3 number) }
+// The key of the path of an output without a place, spelled at once in as much memory as it takes.
+fn output_key(
+    alloc: Global,
+    job: u64,
+    root: &[u8],
+    phase: u32,
+    number: u64,
+) -> Result<Vec<u8>, AllocError>
+    requires job { job < 2 ^ 62 }
+    requires number { number < 2 ^ 62 }
+    ensures { IfOk result (λ key. key.items ≡ key_bytes (job_name job ∷ codes "stor" ∷ (output_prefix root.now phase ++ identifier_text 3 number) ∷ [])) }
 {
-    let mut name = Vec::new(alloc);
-    name.extend_from_slice(c.root.as_bytes())?;
-    name.extend_from_slice(b".")?;
-    put_decimal(&mut name, u64::from(c.phase))?;
-    name.extend_from_slice(b".")?;
-    name.extend_from_slice(&uuid_text(OUTPUT, number))?;
-    Ok(Bytes::from_vec(name))
+    let mut key = Vec::with_capacity(alloc, root.len().saturating_add(BESIDE_ROOT))?;
+    key.extend_from_slice(b"\0")?;
+    key.extend_from_slice(&uuid_text(JOB, job))?;
+    key.extend_from_slice(b"\0stor\0")?;
+    key.extend_from_slice(root)?;
+    key.extend_from_slice(b".")?;
+    put_decimal(&mut key, u64::from(phase))?;
+    key.extend_from_slice(b".")?;
+    key.extend_from_slice(&uuid_text(OUTPUT, number))?;
+    Ok(key)
 }
 
 /// Where an output without a place stands.
@@ -71,8 +86,6 @@ pub fn anonymous_place(alloc: Global, c: &Committing, number: u64) -> Result<Pat
     requires { number < 2 ^ 62 }
     ensures { IfOk result (λ p. p ≡ anonymous_place c.now.job c.now.root c.now.phase number) }
 {
-    let id = name_of_job(alloc, c.job)?;
-    let stor = Bytes::from_slice(alloc, b"stor")?;
-    let name = output_name(alloc, c, number)?;
-    Path::from_parts(alloc, Area::Jobs, &[id, stor, name])
+    let key = output_key(alloc, c.job, c.root.as_bytes(), c.phase, number)?;
+    Ok(Path::from_key(Area::Jobs, key))
 }

@@ -1,11 +1,11 @@
 //! What a commit makes of the records of a task.
-ghost use Rattle.std.specs.Prelude.{◌≡◌, ◌+◌, ◌<◌, ◌^◌, ◌++◌, ◌∷◌, [], IfOk, None, Ok, OnOk, length};
+ghost use Rattle.std.specs.Prelude.{◌≡◌, ◌+◌, ◌<◌, ◌≤◌, ◌^◌, ◌++◌, ◌∷◌, [], IfOk, None, Ok, OnOk, drop, length, true};
 ghost use Rattle.std.specs.List.{filter};
 ghost use Rattle.mt_types.specs.declared.object.Entry.TheVariants as entry;
 ghost use Rattle.mt_model.specs.Names.{number_at};
 ghost use Rattle.mt_model.specs.Resolve.{and_then, fresh_place, kept, resolve, resolved, take_placed, take_record, take_records, take_reference, task_object, with_output};
 ghost use Rattle.mt_model.specs.Rows.{IsTree, object_at, put_refusal, with_row};
-ghost use Rattle.mt_resolve.specs.Taking.{AreReady, HasReady, IsReady, first_taken, is_output, taken_of, taken_or};
+ghost use Rattle.mt_resolve.specs.Taking.{AreReady, AreReadyFrom, HasReady, IsReady, are_fresh, first_taken, is_fresh, is_output, taken_of, taken_or};
 ghost use Rattle.mt_resolve.specs.Undo.{LeadsBack, StaysBack};
 
 use crate::committing::Committing;
@@ -231,19 +231,20 @@ fn outputs_in<B>(records: &[TaskRecord<B>]) -> usize
         .count()
 }
 
-// Takes the records in order, up to the first that is refused.
+// Takes the records in order, up to the first that is refused. The list of outputs has room for so many.
 fn take_all<B: Duplicate>(
     alloc: Global,
     tree: &mut Tree<B>,
     c: &Committing,
     records: &[TaskRecord<B>],
+    outputs: usize,
 ) -> Result<(Taking<B>, Option<TaskFailure>), AllocError>
     requires { AreReady c.now tree.old records.now }
     ensures taken { IfOk result (λ r. taken_or r.1 (taken_of tree.new r.0) ≡ take_records c.now records.now (Ok (first_taken tree.old))) }
     ensures back { IfOk result (λ r. LeadsBack r.0.changes.items tree.new tree.old) }
 {
     let mut taking = Taking {
-        items: Vec::with_capacity(alloc, outputs_in(records))?,
+        items: Vec::with_capacity(alloc, outputs)?,
         made: 0,
         changes: Vec::new(alloc),
     };
@@ -256,6 +257,86 @@ fn take_all<B: Duplicate>(
     Ok((taking, None))
 }
 
+// Whether a record is an output without a place, which is never refused.
+fn is_fresh<B>(given: &TaskRecord<B>) -> bool
+    ensures { result ≡ is_fresh given.now }
+{
+    matches!(*given, TaskRecord::Emit { place: None, .. })
+}
+
+// How many records stand before those at the end that are never refused.
+fn refusable<B>(records: &[TaskRecord<B>]) -> usize
+    ensures few { result ≤ length records.now }
+    ensures fresh { are_fresh (drop result records.now) ≡ true }
+{
+    let mut count = records.len();
+    'records: while count > 0 && is_fresh(&records[count - 1]) {
+        count -= 1;
+    }
+    count
+}
+
+// Puts an output of a task where an output without a place is to stand. What stood there isn't noted.
+fn put_fresh<B: Duplicate>(
+    alloc: Global,
+    tree: &mut Tree<B>,
+    c: &Committing,
+    reducer: Option<u32>,
+    body: &B,
+    taking: &mut Taking<B>,
+) -> Result<(), AllocError>
+    requires { IsReady c.now (taken_of tree.old taking.old) }
+    ensures { OnOk result (let t = taken_of tree.old taking.old in taken_of tree.new taking.new ≡ with_output c.now (fresh_place c.now t) body.now reducer (kept c.now (fresh_place c.now t) body.now t)) }
+{
+    let number = next_number(c, taking.made);
+    let place = anonymous_place(alloc, c, number)?;
+    let name = place.copy(alloc)?;
+    let object = task_object(alloc, c, number, body)?;
+    tree.put_object(place, object)?;
+    taking.made += 1;
+    give(alloc, c, name, body, reducer, taking)
+}
+
+// Takes an output without a place.
+fn take_fresh<B: Duplicate>(
+    alloc: Global,
+    tree: &mut Tree<B>,
+    c: &Committing,
+    given: &TaskRecord<B>,
+    taking: &mut Taking<B>,
+) -> Result<(), AllocError>
+    requires ready { IsReady c.now (taken_of tree.old taking.old) }
+    requires fresh { is_fresh given.now ≡ true }
+    ensures { OnOk result (Ok (taken_of tree.new taking.new) ≡ take_record c.now (taken_of tree.old taking.old) given.now) }
+{
+    match given {
+        TaskRecord::Emit {
+            place: None,
+            reducer,
+            body,
+        } => put_fresh(alloc, tree, c, *reducer, body, taking),
+        _ => Ok(()),
+    }
+}
+
+// Takes outputs without a place: none of them is refused, so nothing is noted that could be taken back.
+fn take_all_fresh<B: Duplicate>(
+    alloc: Global,
+    tree: &mut Tree<B>,
+    c: &Committing,
+    records: &[TaskRecord<B>],
+    taking: &mut Taking<B>,
+) -> Result<(), AllocError>
+    requires ready { AreReadyFrom c.now (taken_of tree.old taking.old) records.now }
+    requires fresh { are_fresh records.now ≡ true }
+    ensures { OnOk result (Ok (taken_of tree.new taking.new) ≡ take_records c.now records.now (Ok (taken_of tree.old taking.old))) }
+{
+    for record in records {
+        take_fresh(alloc, tree, c, record, taking)?;
+    }
+    Ok(())
+}
+
 // What records come to: all of them are taken, or none, and then the rows are as they were.
 fn resolve_records<B: Duplicate>(
     alloc: Global,
@@ -266,23 +347,18 @@ fn resolve_records<B: Duplicate>(
     requires { AreReady c.now tree.old records.now }
     ensures { IfOk result (λ outcome. record { rows = tree.new; outcome = outcome } ≡ resolved tree.old (take_records c.now records.now (Ok (first_taken tree.old)))) }
 {
-    let (taking, refused) = take_all(alloc, tree, c, records)?;
-    let Taking {
-        items,
-        made: _,
-        changes,
-    } = taking;
-    match refused {
-        None => Ok(Outcome::Good(Sequence::from_vec(items))),
-        Some(failure) => {
-            take_back(tree, changes)?;
-            Ok(Outcome::Bad {
-                failure,
-                status: 0,
-                stderr: Bytes::from_vec(Vec::new(alloc)),
-            })
-        }
+    let (front, fresh) = records.split_at(refusable(records));
+    let (mut taking, refused) = take_all(alloc, tree, c, front, outputs_in(records))?;
+    if let Some(failure) = refused {
+        take_back(tree, taking.changes)?;
+        return Ok(Outcome::Bad {
+            failure,
+            status: 0,
+            stderr: Bytes::from_vec(Vec::new(alloc)),
+        });
     }
+    take_all_fresh(alloc, tree, c, fresh, &mut taking)?;
+    Ok(Outcome::Good(Sequence::from_vec(taking.items)))
 }
 
 /// What the commit of a fate leaves of the rows, and what the task came to. On an error, which is want of memory, the rows may be

@@ -19,7 +19,7 @@ use Rattle.mt_model.specs.Tasks.{is_committed, is_ready, may_run}
 use Rattle.mt_sched.specs.Plan.{first_but, has_task}
 use Rattle.mt_sched.proofs.Ready.{ready_tasks_are_ready}
 use Rattle.mt_spawn.specs.Children.{Child}
-use Rattle.mt_engine.specs.Current.{EngineState}
+use Rattle.mt_opening.specs.Current.{EngineState}
 use Rattle.mt_tasks.specs.Standing.{is_ready_in, ready_tasks, waiting}
 use Rattle.mt_tasks.specs.Adding as adding
 use Rattle.mt_runner.specs.Attempts.{AreOf, Attempt, HasWaited, attempts, number_of, started_of, the_task}

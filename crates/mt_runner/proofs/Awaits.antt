@@ -7,7 +7,7 @@ use Rattle.std.proofs.lemmas.Map.Keys.{IsDistinct-head, IsDistinct-tail}
 use Rattle.mt_base.specs.Counts.{NeverFell, Rose}
 use Rattle.mt_types.specs.declared.job.Task.{Task}
 use Rattle.mt_types.specs.declared.task.Raw.{Raw}
-use Rattle.mt_engine.specs.Current.{EngineState}
+use Rattle.mt_opening.specs.Current.{EngineState}
 use Rattle.mt_spawn.specs.Children.{AllWait, Child, HasEnded, HasWaited as ChildWaited, IsGone, MayBe, SameLive, Seen, without}
 use Rattle.mt_spawn.specs.declared.task.Left.{Left}
 use Rattle.mt_runner.specs.Attempts.{AreOf, ArePaired, Attempt, HasWaited, attempts, child_of, is_other, number_of, started_of, task_in, the_task, the_ticket}

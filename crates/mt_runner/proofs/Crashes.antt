@@ -10,8 +10,8 @@ use Rattle.mt_log.specs.LogImage.{chosen_by, payloads_of}
 use Rattle.mt_log.specs.LogState.{Stands}
 use Rattle.mt_log.proofs.Standing.{log_is}
 use Rattle.mt_log.proofs.Walks.{read_by}
-use Rattle.mt_engine.specs.Current.{EngineState, HasNearly, IsBetween, IsCurrent, Over}
-use Rattle.mt_engine.specs.History.{Bytes, HasHistory, History}
+use Rattle.mt_opening.specs.Current.{EngineState, HasNearly, IsBetween, IsCurrent, Over}
+use Rattle.mt_opening.specs.History.{Bytes, HasHistory, History}
 use Rattle.mt_model.specs.State.{State}
 
 pub all_of : (h : History) → IsPrefixOf h h

@@ -17,9 +17,9 @@ use Rattle.mt_model.specs.State.{State}
 use Rattle.mt_model.proofs.Replays.{replay_on}
 use Rattle.mt_model.proofs.Stood.{honest_on}
 use Rattle.mt_records.specs.Fate.{fate}
-use Rattle.mt_engine.specs.Current.{EngineState, IsBetween, Over}
-use Rattle.mt_engine.specs.History.{History}
-use Rattle.mt_engine.specs.Ready.{EngineGoesOn, EngineIsReady}
+use Rattle.mt_opening.specs.Current.{EngineIsReady, EngineState, IsBetween, Over}
+use Rattle.mt_opening.specs.History.{History}
+use Rattle.mt_engine.specs.Ready.{EngineGoesOn}
 use Rattle.mt_runner.specs.Account.{AccountSide, NoCountFell}
 use Rattle.mt_runner.specs.ByAnswer.{GoesOn}
 use Rattle.mt_runner.specs.Turning.{AddsOne, DidAdd, Drained, Follow, Goes, Led, MayTurn, TakesTurn, TurnImages, TurnTaken, Working, added_of, adds, asked_behind, companies, grown_by, no_turn, working_of}

@@ -4,8 +4,7 @@ use Rattle.std.specs.Option.{ForSome}
 use Rattle.mt_disk.specs.CrashModel.{OnlyRead}
 use Rattle.mt_disk.specs.Files.{Files}
 use Rattle.mt_log.specs.LogState.{Stands}
-use Rattle.mt_engine.specs.Current.{EngineState, Serves}
-use Rattle.mt_engine.specs.Ready.{EngineIsReady}
+use Rattle.mt_opening.specs.Current.{EngineIsReady, EngineState, Serves}
 
 module _ {D : Type 0} (seen : D → Option Files) (may_leave : D → Files → Type 0) (moment : D → ℕ) (left_since : D → ℕ → Files → Type 0) where
   pub stands_on : (old new : D) (engine : EngineState) → OnlyRead seen may_leave moment left_since old new → Stands seen may_leave old engine.log → Stands seen may_leave new engine.log

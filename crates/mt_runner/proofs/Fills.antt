@@ -14,7 +14,7 @@ use Rattle.mt_sched.proofs.Ready.{ready_tasks_are_ready}
 use Rattle.mt_spawn.specs.Children.{Child, SameCounts, SameLive, Seen, lives, ticket_of}
 use Rattle.mt_spawn.specs.declared.task.Ticket.{Ticket}
 use Rattle.mt_sched.specs.Plan.{first_but, has_task, is_same_task}
-use Rattle.mt_engine.specs.Current.{EngineState}
+use Rattle.mt_opening.specs.Current.{EngineState}
 use Rattle.mt_tasks.specs.Launching.{Comes}
 use Rattle.mt_tasks.specs.Standing.{is_ready_in, ready_tasks}
 use Rattle.mt_runner.specs.Attempts.{AreFirsts, AreOf, ArePaired, Attempt, attempts, child_of, number_of, started_of, task_in, the_task, the_ticket}

@@ -36,8 +36,8 @@ use Rattle.mt_spawn.specs.declared.task.FileSize.{FileSize}
 use Rattle.mt_spawn.specs.declared.task.Left.{Left}
 use Rattle.mt_spawn.specs.declared.task.Sizes.{Sizes}
 use Rattle.mt_spawn.specs.declared.task.Sizes.TheVariants as sizes
-use Rattle.mt_engine.specs.Current.{EngineState, IsCurrent}
-use Rattle.mt_engine.specs.History.{History}
+use Rattle.mt_opening.specs.Current.{EngineState, IsCurrent}
+use Rattle.mt_opening.specs.History.{History}
 use Rattle.mt_sched.specs.Plan.{is_same_task}
 use Rattle.mt_tasks.specs.Adding.{Adds, IsCloseOf, IsCommitOf, IsFree}
 use Rattle.mt_tasks.specs.Right.{IsRight}

@@ -8,9 +8,8 @@ use Rattle.mt_types.specs.declared.task.Run.{Run}
 use Rattle.mt_model.specs.Honest.{Bytes}
 use Rattle.mt_model.specs.State.{State}
 use Rattle.mt_records.specs.Fate.{fate}
-use Rattle.mt_engine.specs.Current.{EngineState, IsBetween, IsCurrent}
-use Rattle.mt_engine.specs.History.{History}
-use Rattle.mt_engine.specs.Ready.{EngineIsReady}
+use Rattle.mt_opening.specs.Current.{EngineIsReady, EngineState, IsBetween, IsCurrent}
+use Rattle.mt_opening.specs.History.{History}
 use Rattle.mt_runner.specs.Living.{LivesTo, may_lose, may_waste}
 use Rattle.mt_runner.specs.Turning.{TurnImages, adds}
 use Rattle.mt_runner.specs.declared.runner.Started.{Started}

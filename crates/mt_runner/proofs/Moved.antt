@@ -17,9 +17,8 @@ use Rattle.mt_model.specs.State.{State}
 use Rattle.mt_records.specs.Fate.{fate}
 use Rattle.mt_spawn.specs.Children.{MayBe}
 use Rattle.mt_spawn.specs.declared.task.Left.{Left}
-use Rattle.mt_engine.specs.Current.{EngineState, IsBetween, IsCurrent}
-use Rattle.mt_engine.specs.History.{History}
-use Rattle.mt_engine.specs.Ready.{EngineIsReady}
+use Rattle.mt_opening.specs.Current.{EngineIsReady, EngineState, IsBetween, IsCurrent}
+use Rattle.mt_opening.specs.History.{History}
 use Rattle.mt_tasks.specs.Adding.{Added, Adds, IsCloseOf, IsCommitOf, IsFree}
 use Rattle.mt_tasks.specs.Right.{IsRight, IsRightNow}
 use Rattle.mt_tasks.specs.Standing.{waiting}

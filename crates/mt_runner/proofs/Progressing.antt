@@ -10,7 +10,7 @@ use Rattle.mt_model.specs.State.{State}
 use Rattle.mt_spawn.specs.Children.{SameCounts}
 use Rattle.mt_sched.specs.Plan.{first_but, has_task}
 use Rattle.mt_sched.proofs.Ready.{ready_tasks_are_ready}
-use Rattle.mt_engine.specs.Current.{EngineState}
+use Rattle.mt_opening.specs.Current.{EngineState}
 use Rattle.mt_tasks.specs.Standing.{is_ready_in, ready_tasks, waiting}
 use Rattle.mt_runner.specs.Attempts.{Attempt, the_task}
 use Rattle.mt_runner.specs.Attends.{AreMany, Attends, Ended, Finishes, Gone, Live, Lost, NothingReady, SameOrClosed, Stopped, Took, Tried, Unheard, Waiting, WorkSide, Works, attempts_in, is_ready_now}

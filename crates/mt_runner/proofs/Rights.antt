@@ -30,9 +30,8 @@ use Rattle.mt_model.proofs.TasksWith.{ready-with, waits_finish-with}
 use Rattle.mt_model.proofs.Replays.{replay_more}
 use Rattle.mt_body.specs.Stored.{bytes_of}
 use Rattle.mt_log.specs.LogImage.{payloads_of}
-use Rattle.mt_engine.specs.Current.{EngineState, IsBetween, IsCurrent, Over}
-use Rattle.mt_engine.specs.History.{History}
-use Rattle.mt_engine.specs.Ready.{EngineIsReady}
+use Rattle.mt_opening.specs.Current.{EngineIsReady, EngineState, IsBetween, IsCurrent, Over}
+use Rattle.mt_opening.specs.History.{History}
 use Rattle.mt_tasks.specs.Adding.{Added, IsFree}
 use Rattle.mt_tasks.specs.Right.{IsRight, IsRightNow}
 use Rattle.mt_tasks.specs.Standing.{ready_tasks, waiting}

@@ -18,10 +18,10 @@ use Rattle.mt_model.proofs.LawfulSteps.{Lawful-first_state}
 use Rattle.mt_model.proofs.Replays.{replay_on}
 use Rattle.mt_spawn.specs.Children.{Seen}
 use Rattle.mt_spawn.specs.declared.task.Left.{Left}
-use Rattle.mt_engine.specs.Current.{EngineState, IsCurrent, Over, Serves}
-use Rattle.mt_engine.specs.History.{History, IsHistoryOf}
-use Rattle.mt_engine.proofs.Histories.{one_history}
-use Rattle.mt_engine.proofs.Taking.{history_taken}
+use Rattle.mt_opening.specs.Current.{EngineState, IsCurrent, Over, Serves}
+use Rattle.mt_opening.specs.History.{History, IsHistoryOf}
+use Rattle.mt_opening.proofs.Histories.{one_history}
+use Rattle.mt_opening.proofs.Taking.{history_taken}
 use Rattle.mt_runner.specs.Attempts.{Attempt, RunnerState, attempts}
 use Rattle.mt_runner.specs.AtWork.{AreRight, AreRightNow, AtWork}
 use Rattle.mt_runner.proofs.Crashes.{or_else}

@@ -15,8 +15,8 @@ use Rattle.mt_model.specs.Honest.{Bytes}
 use Rattle.mt_model.specs.State.{State}
 use Rattle.mt_spawn.specs.Children.{Seen}
 use Rattle.mt_body.specs.Growth.{command_growth}
-use Rattle.mt_engine.specs.Current.{EngineState, IsCurrent, told_size}
-use Rattle.mt_engine.specs.History.{History}
+use Rattle.mt_opening.specs.Current.{EngineState, IsCurrent, told_size}
+use Rattle.mt_opening.specs.History.{History}
 use Rattle.mt_tasks.specs.Adding.{Added, HasRoom, Lacked, LacksRoom, MayHaveAdded}
 use Rattle.mt_tasks.specs.Standing.{ready_tasks, waiting}
 use Rattle.mt_runner.specs.Account.{AccountSide, NoCountFell, account_side, asked_again, tasks_of}

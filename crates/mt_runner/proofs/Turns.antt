@@ -11,8 +11,8 @@ use Rattle.mt_types.specs.declared.task.Run.{Run}
 use Rattle.mt_model.specs.Honest.{Bytes}
 use Rattle.mt_model.specs.State.{State}
 use Rattle.mt_records.specs.Fate.{fate}
-use Rattle.mt_engine.specs.Current.{EngineState, IsBetween, IsCurrent, Over, Serves, told_size}
-use Rattle.mt_engine.specs.History.{HasHistory, History}
+use Rattle.mt_opening.specs.Current.{EngineState, IsBetween, IsCurrent, Over, Serves, told_size}
+use Rattle.mt_opening.specs.History.{HasHistory, History}
 use Rattle.mt_engine.specs.Ready.{EngineGoesOn}
 use Rattle.mt_runner.specs.Attempts.{Attempt}
 use Rattle.mt_runner.specs.Account.{AccountSide, NoCountFell, account_side, asked_again, tasks_of, told_time}

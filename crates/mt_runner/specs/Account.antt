@@ -2,7 +2,7 @@
 use Rattle.std.specs.Prelude.{ℕ, ◌+◌, ◌≤◌, min, Bool, false, true}
 use Rattle.mt_base.specs.Counts.{NeverFell}
 use Rattle.mt_spawn.specs.Children.{Seen}
-use Rattle.mt_engine.specs.History.{History}
+use Rattle.mt_opening.specs.History.{History}
 
 -- how tasks stand: how often their spawner failed, how often they had to wait, and how many ran side by side, summed up
 pub record Tasks : Type 0 where

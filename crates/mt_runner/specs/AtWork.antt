@@ -9,9 +9,9 @@ use Rattle.mt_model.specs.Honest.{Bytes}
 use Rattle.mt_model.specs.State.{State}
 use Rattle.mt_spawn.specs.Children.{Seen}
 use Rattle.mt_spawn.specs.declared.task.Left.{Left}
-use Rattle.mt_engine.specs.Current.{EngineState, IsCurrent}
-use Rattle.mt_engine.specs.History.{History}
-use Rattle.mt_engine.specs.Ready.{EngineGoesOn, EngineIsReady}
+use Rattle.mt_opening.specs.Current.{EngineIsReady, EngineState, IsCurrent}
+use Rattle.mt_opening.specs.History.{History}
+use Rattle.mt_engine.specs.Ready.{EngineGoesOn}
 use Rattle.mt_tasks.specs.Right.{IsRight}
 use Rattle.mt_runner.specs.Attempts.{ArePaired, Attempt, RunnerState, attempts}
 

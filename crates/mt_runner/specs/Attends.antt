@@ -7,7 +7,7 @@ use Rattle.mt_types.specs.declared.job.Task.{Task}
 use Rattle.mt_model.specs.State.{State}
 use Rattle.mt_spawn.specs.Children.{SameCounts, Seen}
 use Rattle.mt_sched.specs.Plan.{first_but, is_same_task}
-use Rattle.mt_engine.specs.Current.{EngineState}
+use Rattle.mt_opening.specs.Current.{EngineState}
 use Rattle.mt_tasks.specs.Adding as adding
 use Rattle.mt_tasks.specs.Standing.{is_ready_in, ready_tasks, waiting}
 use Rattle.mt_runner.specs.Attempts.{AreFirsts, AreOf, Attempt, HasWaited, attempts, the_task, the_ticket}

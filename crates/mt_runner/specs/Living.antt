@@ -12,8 +12,8 @@ use Rattle.mt_model.specs.CommandStep.{replay}
 use Rattle.mt_model.specs.Honest.{Bytes}
 use Rattle.mt_model.specs.State.{State, first_state, job_at}
 use Rattle.mt_lives.specs.World.{Attempt, End, Finish, Happens, IsAttempt, LifeStep, Lose, Start, Steps, World, attempt_at, state_of, task_of, ticket_of}
-use Rattle.mt_engine.specs.Current.{EngineState, IsBetween, IsCurrent}
-use Rattle.mt_engine.specs.History.{History}
+use Rattle.mt_opening.specs.Current.{EngineState, IsBetween, IsCurrent}
+use Rattle.mt_opening.specs.History.{History}
 use Rattle.mt_tasks.specs.Standing.{is_ready_in}
 use Rattle.mt_runner.specs.Attempts.{number_of, task_in}
 use Rattle.mt_runner.specs.Turning.{TurnImages}

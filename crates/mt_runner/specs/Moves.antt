@@ -14,8 +14,8 @@ use Rattle.mt_model.specs.JobSteps.{done_at}
 use Rattle.mt_model.specs.State.{State, job_at}
 use Rattle.mt_records.specs.Fate.{fate}
 use Rattle.mt_jobtext.specs.JobTexts.{archive_of}
-use Rattle.mt_engine.specs.Current.{EngineState, IsBetween, IsCurrent}
-use Rattle.mt_engine.specs.History.{History}
+use Rattle.mt_opening.specs.Current.{EngineState, IsBetween, IsCurrent}
+use Rattle.mt_opening.specs.History.{History}
 use Rattle.mt_tasks.specs.Adding.{Added, IsFree, Lacked, MayHaveAdded}
 use Rattle.mt_tasks.specs.Standing.{waiting}
 use Rattle.mt_tasks.specs.declared.outcomes.OutcomeEnd.{OutcomeEnd}

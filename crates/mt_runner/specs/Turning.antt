@@ -19,8 +19,8 @@ use Rattle.mt_records.specs.Fate.{fate}
 use Rattle.mt_jobtext.specs.JobTexts.{archive_of}
 use Rattle.mt_body.specs.Growth.{command_growth}
 use Rattle.mt_disk.specs.Files.{Files}
-use Rattle.mt_engine.specs.Current.{HasNearly}
-use Rattle.mt_engine.specs.History.{HasHistory, History}
+use Rattle.mt_opening.specs.Current.{HasNearly}
+use Rattle.mt_opening.specs.History.{HasHistory, History}
 use Rattle.mt_tasks.specs.Adding.{HasRoom, IsFree, LacksRoom}
 use Rattle.mt_tasks.specs.Standing.{ready_tasks, waiting}
 use Rattle.mt_runner.specs.Account.{AccountSide, NoCountFell, asked_again}

@@ -1,7 +1,7 @@
 //! The children are waited for.
 ghost use Rattle.std.specs.Prelude.{◌≡◌, ◌<◌, ℕ, None, length, option_map};
 ghost use Rattle.std.specs.List.{find};
-ghost use Rattle.mt_engine.specs.Current.{EngineState};
+ghost use Rattle.mt_opening.specs.Current.{EngineState};
 ghost use Rattle.mt_runner.specs.Attempts.{ArePaired, number_of, task_in};
 ghost use Rattle.mt_runner.specs.Attends.{work_side};
 ghost use Rattle.mt_runner.specs.Awaiting.{Awaits};

@@ -4,7 +4,7 @@ ghost use Rattle.std.specs.List.{list_any};
 ghost use Rattle.mt_sched.specs.Plan.{first_but, has_task};
 ghost use Rattle.mt_base.specs.Counts.{NeverFell};
 ghost use Rattle.mt_disk.specs.CrashModel.{OnlyRead};
-ghost use Rattle.mt_engine.specs.Ready.{EngineIsReady};
+ghost use Rattle.mt_opening.specs.Current.{EngineIsReady};
 ghost use Rattle.mt_tasks.specs.Right.{IsRightNow};
 ghost use Rattle.mt_tasks.specs.Standing.{is_ready_in, ready_tasks};
 ghost use Rattle.mt_runner.specs.Attempts.{ArePaired, number_of, task_in};

@@ -75,7 +75,7 @@ range_split a (suc n) m =
     let there : a + 1 + n ≡ a + suc n = omega arith in
     ap (range_with_len a) on ∙ ap (λ l. a ∷ l) (range_split (a + 1) n m) ∙ ap (λ b. a ∷ range_with_len (a + 1) n ++ range_with_len b m) there
 
-any_in : (a n k : ℕ) → a ≤ k → k < a + n → list_any (λ x. x == k) (range_with_len a n) ≡ true
+pub any_in : (a n k : ℕ) → a ≤ k → k < a + n → list_any (λ x. x == k) (range_with_len a n) ≡ true
 any_in a zero k from to = absurd (omega arith)
 any_in a (suc n) k from to = by (a == k) refl (λ more. any_in (a + 1) n k more (omega arith))
   where
@@ -83,7 +83,7 @@ any_in a (suc n) k from to = by (a == k) refl (λ more. any_in (a + 1) n k more 
     by true e more = refl
     by false e more = more (let off : a ≡ k → ⊥ = λ same. true≢false (sym (eq-eqb a k same) ∙ e) in omega (arith, off, from))
 
-none_in : (a n k : ℕ) → a + n ≤ k → list_any (λ x. x == k) (range_with_len a n) ≡ false
+pub none_in : (a n k : ℕ) → a + n ≤ k → list_any (λ x. x == k) (range_with_len a n) ≡ false
 none_in a zero k past = refl
 none_in a (suc n) k past = ap (λ b. b || list_any (λ x. x == k) (range_with_len (a + 1) n)) (differ a k (λ same. omega arith) (a == k) refl) ∙ none_in (a + 1) n k (omega arith)
 

@@ -1,5 +1,6 @@
 pub mod Filters
 pub mod Plain
+pub mod Places
 pub mod Changes
 pub mod Jobs
 pub mod Orders

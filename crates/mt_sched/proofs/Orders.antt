@@ -1,7 +1,7 @@
 -- Places in an ordered set.
-use Rattle.std.proofs.Common.{◌≡◌, ℕ, ◌+◌, ◌<◌, ◌≤◌, ◌==◌, Bool, true, false, not, cond, List, [], ◌∷◌, ◌++◌, refl, sym, ap, subst, ◌∙◌, arith, zero, suc, ◌⊎◌, inl, inr, eq-eqb}
+use Rattle.std.proofs.Common.{◌≡◌, ℕ, ◌+◌, ◌<◌, ◌≤◌, ◌==◌, Bool, true, false, not, cond, List, [], ◌∷◌, ◌++◌, refl, sym, ap, subst, ◌∙◌, arith, ◌⊎◌, inl, inr, eq-eqb}
 use Rattle.std.specs.Prelude.{All}
-use Rattle.std.specs.List.{filter, list_any, range_with_len, AllByRecursion}
+use Rattle.std.specs.List.{filter, list_any, AllByRecursion}
 use Rattle.std.specs.List.Sorted.{IsStrictlySortedBy}
 use Rattle.std.specs.BTreeMap.{is_at}
 use Rattle.std.specs.BTreeSet.{insert_key}
@@ -10,10 +10,10 @@ use Rattle.std.specs.Ordering.{nat_cmp, is_eq, match_ordering}
 use Rattle.std.specs.Cmp.{nat_cmp_is}
 use Rattle.std.specs.declared.cmp.Ordering.TheVariants.{Less, Equal, Greater}
 use Rattle.std.proofs.lemmas.Bool.{cases_lt, eqb-true}
-use Rattle.std.proofs.lemmas.List.Elements.{All-cons, All-head, All-nil, All-push, All-tail, All-weaker}
+use Rattle.std.proofs.lemmas.List.Elements.{All-head, All-push, All-tail, All-weaker}
 use Rattle.std.proofs.lemmas.Map.Keys.{sorted_head, sorted_tail}
 use Rattle.mt_model.proofs.Maps.{same_function}
-use Rattle.mt_sched.proofs.Filters.{differ, range_split}
+use Rattle.mt_sched.proofs.Filters.{differ}
 
 pub greater : (k x : ℕ) → x < k → nat_cmp k x ≡ Greater
 greater k x less = sym (nat_cmp_is k x Greater less)
@@ -54,19 +54,6 @@ remove_filter p [] sorted = refl
 remove_filter p (x ∷ xs) sorted =
     ap (λ b. cond b xs (x ∷ remove_key (is_at (nat_cmp p)) xs)) (same_test p x)
     ∙ remove_case p x xs (x == p) refl (sorted_head nat_cmp x xs sorted) (remove_filter p xs (sorted_tail nat_cmp x xs sorted))
-
-pub below_range : (a n m : ℕ) → a + n ≤ m → All (λ x. x < m) (range_with_len a n)
-below_range a zero m le = All-nil (λ x. x < m)
-below_range a (suc n) m le = All-cons (λ x. x < m) a (range_with_len (a + 1) n) (omega arith) (below_range (a + 1) n m (omega arith))
-
--- one number more after those from 0 on
-pub counted_on : (xs : List ℕ) (n : ℕ) → xs ≡ range_with_len 0 n → insert_key nat_cmp xs n ≡ range_with_len 0 (n + 1)
-counted_on xs n are =
-    let start : 0 + n ≡ n = omega arith in
-    insert_last xs n (subst (All (λ x. x < n)) (sym are) (below_range 0 n n (omega arith)))
-    ∙ ap (λ l. l ++ n ∷ []) are
-    ∙ ap (λ m. range_with_len 0 n ++ m ∷ []) (sym start)
-    ∙ sym (range_split 0 n 1)
 
 -- where each is below the next number, the next one goes to the end, and all are below the one after it
 pub all_below_next : (xs : List ℕ) (n : ℕ) → All (λ x. x < n) xs → All (λ x. x < n + 1) (xs ++ n ∷ [])

@@ -1,5 +1,5 @@
 -- What is kept of a job that runs: the places of each phase, and those of them that are not committed.
-use Rattle.std.specs.Prelude.{◌≡◌, ℕ, ◌<◌, ◌==◌, Bool, true, false, not, cond, ◌&&◌, nat_lt, List, [], ◌∷◌, length, map, take, All, Option, Some, None}
+use Rattle.std.specs.Prelude.{◌≡◌, ℕ, ◌-◌, ◌<◌, ◌≤◌, ◌==◌, Bool, true, false, not, cond, ◌&&◌, nat_lt, List, [], ◌∷◌, ◌++◌, length, map, take, All, Option, Some, None}
 use Rattle.std.specs.List.{find, flat_map, list_all, list_any, range_with_len, slice_get}
 use Rattle.std.specs.List.Sorted.{IsStrictlySortedBy}
 use Rattle.std.specs.Option.{option_map}
@@ -20,10 +20,15 @@ pub record Plan : Type 0 where
   pub phases : List PhasePlan
   pub ended : Bool
 
--- the places that are not committed rise, and each is one of the phase
-pub record IsPhasePlan (q : PhasePlan) : Type 0 where
-  pub rising : IsStrictlySortedBy nat_cmp q.todo
-  pub below : All (λ k. k < q.places) q.todo
+-- the places that are not committed: these, and all from the place `rest` on
+abbrev pub open_places : List ℕ → ℕ → ℕ → List ℕ
+open_places passed rest places = passed ++ range_with_len rest (places - rest)
+
+-- how they are kept: these rise and stand before that place, which is none beyond the end
+pub record ArePlacesKept (passed : List ℕ) (rest places : ℕ) : Type 0 where
+  pub rising : IsStrictlySortedBy nat_cmp passed
+  pub below : All (λ k. k < rest) passed
+  pub most : rest ≤ places
 
 -- the phases are numbered from 0
 abbrev pub AreNumbered : List PhasePlan → Type 0

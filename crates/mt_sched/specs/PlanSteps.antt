@@ -1,5 +1,5 @@
 -- What changes of a job make of its plan.
-use Rattle.std.specs.Prelude.{ℕ, ◌+◌, ◌==◌, true, false, not, cond, List, [], ◌∷◌, ◌++◌, map}
+use Rattle.std.specs.Prelude.{ℕ, ◌+◌, ◌==◌, true, false, not, cond, List, ◌++◌, map}
 use Rattle.std.specs.List.{enumerate_from, filter, range_with_len}
 use Rattle.mt_types.specs.declared.document.PhaseKind.{PhaseKind}
 use Rattle.mt_types.specs.declared.document.PhaseKind.TheVariants.{Map, Reduce}
@@ -26,10 +26,6 @@ fed_to n (Reduce count) q = q
 -- so many items more are fed to a phase
 abbrev pub fed : ℕ → PhasePlan → PhasePlan
 fed n q = fed_to n q.kind q
-
--- one place more of a phase, at the end
-abbrev pub with_place : PhasePlan → PhasePlan
-with_place q = record q { places = q.places + 1; todo = q.todo ++ q.places ∷ [] }
 
 -- a place of a phase is committed
 abbrev pub without_place : ℕ → PhasePlan → PhasePlan

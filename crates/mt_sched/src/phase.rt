@@ -1,45 +1,35 @@
 //! The places of a phase, and those of them that are not committed.
-ghost use Rattle.std.specs.Prelude.{◌≡◌, IfOk, not};
+ghost use Rattle.std.specs.Prelude.{◌≡◌, ◌-◌, ◌<◌, ◌≤◌, ℕ, All, OnOk, not};
 ghost use Rattle.std.specs.List.{find, range_with_len};
 ghost use Rattle.std.specs.Option.{option_map};
 ghost use Rattle.std.specs.List.Sorted.{IsStrictlySortedBy};
 ghost use Rattle.std.specs.Ordering.{nat_cmp};
-ghost use Rattle.mt_sched.specs.Plan.{has_task, is_same_task, task_at};
+ghost use Rattle.mt_sched.specs.Plan.{has_task, is_same_task, open_places, task_at};
 
 use mt_types::{PhaseKind, Task};
 use std::alloc::{AllocError, Global};
 use std::collections::BTreeSet;
 use std::marker::Model;
 
-/// A phase of a job that runs.
+/// A phase of a job that runs: the number of its places, the place from which on none is committed, and those before it that aren't, as others
+/// passed them.
 #[derive(Drop)]
 pub struct PhaseQueue {
     phase: u32,
     kind: PhaseKind,
     places: u64,
-    todo: BTreeSet<u64>,
+    rest: u64,
+    passed: BTreeSet<u64>,
 }
 
 impl Model for PhaseQueue {
-    ghost use Rattle.mt_sched.specs.Plan.{PhasePlan, IsPhasePlan};
+    ghost use Rattle.mt_sched.specs.Plan.{PhasePlan, ArePlacesKept, open_places};
 
     ghost Value = { PhasePlan };
 
-    ghost view = { λ q. record { phase = q.phase; kind = q.kind; places = q.places; todo = q.todo.keys } };
+    ghost view = { λ q. record { phase = q.phase; kind = q.kind; places = q.places; todo = open_places q.passed.keys q.rest q.places } };
 
-    ghost invariant = { λ q. IsPhasePlan (record { phase = q.phase; kind = q.kind; places = q.places; todo = q.todo.keys }) };
-}
-
-// The first places, so many.
-fn first_places(alloc: Global, count: u32) -> Result<BTreeSet<u64>, AllocError>
-    ensures places { IfOk result (λ s. s.keys ≡ range_with_len 0 count) }
-    ensures rising { IfOk result (λ s. IsStrictlySortedBy nat_cmp s.keys) }
-{
-    let mut places = BTreeSet::new(alloc);
-    for place in 0..u64::from(count) {
-        places.insert(place)?;
-    }
-    Ok(places)
+    ghost invariant = { λ q. ArePlacesKept q.passed.keys q.rest q.places };
 }
 
 // Whether they are the same task.
@@ -64,10 +54,10 @@ fn has_task(skip: &[Task], task: &Task) -> bool
 }
 
 // The first of these places whose task is not among these.
-fn first_place(todo: &BTreeSet<u64>, job: u64, phase: u32, skip: &[Task]) -> Option<u64>
-    ensures { result ≡ find (λ k. not (has_task skip.now (task_at job phase k))) todo.now.keys }
+fn first_passed(passed: &BTreeSet<u64>, job: u64, phase: u32, skip: &[Task]) -> Option<u64>
+    ensures { result ≡ find (λ k. not (has_task skip.now (task_at job phase k))) passed.now.keys }
 {
-    for place in todo.iter() {
+    for place in passed.iter() {
         let task = Task {
             job,
             phase,
@@ -78,6 +68,37 @@ fn first_place(todo: &BTreeSet<u64>, job: u64, phase: u32, skip: &[Task]) -> Opt
         }
     }
     None
+}
+
+// The first place from one on whose task is not among these.
+fn first_of_rest(rest: u64, places: u64, job: u64, phase: u32, skip: &[Task]) -> Option<u64>
+    ensures { result ≡ find (λ k. not (has_task skip.now (task_at job phase k))) (range_with_len rest (places - rest)) }
+{
+    for place in rest..places {
+        let task = Task { job, phase, place };
+        if !has_task(skip, &task) {
+            return Some(place);
+        }
+    }
+    None
+}
+
+// Passes the places up to one: they are not committed, and stand before those of which none is. On want of memory some of them are passed.
+fn pass(passed: &mut BTreeSet<u64>, rest: &mut u64, place: u64) -> Result<(), AllocError>
+    requires rest { rest.old ≤ place }
+    requires rising { IsStrictlySortedBy nat_cmp passed.old.keys }
+    requires below { All (λ k. k < rest.old) passed.old.keys }
+    ensures rest { rest.new ≤ place }
+    ensures rising { IsStrictlySortedBy nat_cmp passed.new.keys }
+    ensures below { All (λ k. k < rest.new) passed.new.keys }
+    ensures same { (places : ℕ) → place ≤ places → open_places passed.new.keys rest.new places ≡ open_places passed.old.keys rest.old places }
+    ensures up_to { OnOk result (rest.new ≡ place) }
+{
+    'places: while *rest < place {
+        passed.insert(*rest)?;
+        *rest += 1;
+    }
+    Ok(())
 }
 
 // The task at a place, if there is one.
@@ -91,30 +112,27 @@ fn task_of(job: u64, phase: u32, place: Option<u64>) -> Option<Task>
 }
 
 impl PhaseQueue {
-    ghost use Rattle.std.specs.Prelude.{◌≡◌, IfOk, OnOk, OnErr, map};
-    ghost use Rattle.mt_sched.specs.Plan.{first_but, is_complete_phase, is_open_place, task_at};
-    ghost use Rattle.mt_sched.specs.PlanSteps.{fed, first_phase, with_place, without_place};
+    ghost use Rattle.std.specs.Prelude.{◌≡◌, OnOk, OnErr, map};
+    ghost use Rattle.mt_types.specs.declared.document.PhaseKind.TheVariants.{Map};
+    ghost use Rattle.std.specs.Prelude.{not};
+    ghost use Rattle.std.specs.List.{find};
+    ghost use Rattle.mt_sched.specs.Plan.{first_but, has_task, is_complete_phase, is_open_place, task_at};
+    ghost use Rattle.mt_sched.specs.PlanSteps.{fed, fed_to, first_phase, without_place};
 
-    /// A phase into which nothing is fed.
-    pub fn new(alloc: Global, phase: u32, kind: PhaseKind) -> Result<PhaseQueue, AllocError>
-        ensures { IfOk result (λ q. q ≡ first_phase (phase, kind)) }
+    /// A phase into which nothing is fed. It takes no memory yet.
+    pub fn new(alloc: Global, phase: u32, kind: PhaseKind) -> PhaseQueue
+        ensures { result ≡ first_phase (phase, kind) }
     {
-        match kind {
-            PhaseKind::Map => Ok(PhaseQueue {
-                phase,
-                kind,
-                places: 0,
-                todo: BTreeSet::new(alloc),
-            }),
-            PhaseKind::Reduce { count } => {
-                let todo = first_places(alloc, count)?;
-                Ok(PhaseQueue {
-                    phase,
-                    kind,
-                    places: u64::from(count),
-                    todo,
-                })
-            }
+        let places = match kind {
+            PhaseKind::Map => 0,
+            PhaseKind::Reduce { count } => u64::from(count),
+        };
+        PhaseQueue {
+            phase,
+            kind,
+            places,
+            rest: 0,
+            passed: BTreeSet::new(alloc),
         }
     }
 
@@ -143,56 +161,73 @@ impl PhaseQueue {
     pub fn is_complete(&self) -> bool
         ensures { result ≡ is_complete_phase self.now }
     {
-        self.todo.is_empty()
+        self.passed.is_empty() && self.rest == self.places
     }
 
     /// Whether the place is one that is not committed.
     pub fn is_open(&self, place: u64) -> bool
         ensures { result ≡ is_open_place self.now place }
     {
-        self.todo.contains(&place)
+        if place < self.rest {
+            self.passed.contains(&place)
+        } else {
+            place < self.places
+        }
+    }
+
+    // The first place that is not committed and whose task is not among these.
+    fn first_open(&self, job: u64, skip: &[Task]) -> Option<u64>
+        ensures { result ≡ find (λ k. not (has_task skip.now (task_at job self.now.phase k))) self.now.todo }
+    {
+        match first_passed(&self.passed, job, self.phase, skip) {
+            Some(place) => Some(place),
+            None => first_of_rest(self.rest, self.places, job, self.phase, skip),
+        }
     }
 
     /// The first task that is not committed and not among these. Takes no memory.
     pub fn first(&self, job: u64, skip: &[Task]) -> Option<Task>
         ensures { result ≡ first_but skip.now (map (task_at job self.now.phase) self.now.todo) }
     {
-        task_of(
-            job,
-            self.phase,
-            first_place(&self.todo, job, self.phase, skip),
-        )
+        task_of(job, self.phase, self.first_open(job, skip))
     }
 
-    // One place more, at the end.
-    fn add(&mut self) -> Result<(), AllocError>
-        ensures ok { OnOk result (self.new ≡ with_place self.old) }
+    // So many places more, at the end.
+    fn add(&mut self, count: u64) -> Result<(), AllocError>
+        ensures ok { OnOk result (self.new ≡ fed_to count Map self.old) }
         ensures err { OnErr result (self.new ≡ self.old) }
     {
-        let place = self.places;
-        if place == u64::MAX {
-            return Err(AllocError);
+        match self.places.checked_add(count) {
+            Some(places) => {
+                self.places = places;
+                Ok(())
+            }
+            None => Err(AllocError),
         }
-        self.todo.insert(place)?;
-        self.places = place + 1;
-        Ok(())
     }
 
-    /// One item more is fed to it. On want of memory, and at the 2^64th place, nothing has changed.
-    pub fn feed(&mut self) -> Result<(), AllocError>
-        ensures ok { OnOk result (self.new ≡ fed 1 self.old) }
+    /// So many items more are fed to it, in one step. At the 2^64th place nothing has changed. Takes no memory.
+    pub fn feed(&mut self, count: u64) -> Result<(), AllocError>
+        ensures ok { OnOk result (self.new ≡ fed count self.old) }
         ensures err { OnErr result (self.new ≡ self.old) }
     {
         match self.kind {
-            PhaseKind::Map => self.add(),
+            PhaseKind::Map => self.add(count),
             PhaseKind::Reduce { count: _ } => Ok(()),
         }
     }
 
-    /// The place is committed. Takes no memory.
-    pub fn commit(&mut self, place: u64)
-        ensures { self.new ≡ without_place place self.old }
+    /// The place is committed. On want of memory nothing has changed. It takes some where it passes places that are not committed.
+    pub fn commit(&mut self, place: u64) -> Result<(), AllocError>
+        ensures ok { OnOk result (self.new ≡ without_place place self.old) }
+        ensures err { OnErr result (self.new ≡ self.old) }
     {
-        self.todo.remove(&place);
+        if place < self.rest {
+            self.passed.remove(&place);
+        } else if place < self.places {
+            pass(&mut self.passed, &mut self.rest, place)?;
+            self.rest = place + 1;
+        }
+        Ok(())
     }
 }

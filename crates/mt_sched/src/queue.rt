@@ -40,7 +40,7 @@ fn are_complete(queues: &[PhaseQueue]) -> bool
 }
 
 impl Queue {
-    ghost use Rattle.std.specs.Prelude.{◌≡◌, IfOk, OnOk, OnErr, take};
+    ghost use Rattle.std.specs.Prelude.{◌≡◌, ◌<◌, ◌↔◌, ℕ, false, IfOk, IsTrue, OnOk, OnErr, length, take};
     ghost use Rattle.std.specs.List.{list_all};
     ghost use Rattle.mt_sched.specs.Plan.{first_but, has_ready_in, has_ready_phase, is_committed_in, is_complete_phase, is_complete_plan, is_ready_in, is_task_in, may_begin_in, ready_in, ready_of_phase, waits_in};
     ghost use Rattle.mt_sched.specs.PlanOfJob.{kinds_of};
@@ -54,8 +54,7 @@ impl Queue {
         let mut queues = Vec::new(alloc);
         let mut number: u32 = 0;
         for phase in phases {
-            let queue = PhaseQueue::new(alloc, number, phase.kind)?;
-            queues.push(queue)?;
+            queues.push(PhaseQueue::new(alloc, number, phase.kind))?;
             let Some(next) = number.checked_add(1) else {
                 return Err(AllocError);
             };
@@ -67,26 +66,36 @@ impl Queue {
         })
     }
 
-    /// One item more is fed to a phase, if there is one. On want of memory, and at the 2^64th place, nothing has changed.
-    pub fn feed(&mut self, phase: u32) -> Result<(), AllocError>
-        ensures ok { OnOk result (self.new ≡ grown self.old phase 1) }
+    /// So many items more are fed to a phase, if there is one. At the 2^64th place nothing has changed. Takes no memory.
+    pub fn feed(&mut self, phase: u32, count: u64) -> Result<(), AllocError>
+        ensures ok { OnOk result (self.new ≡ grown self.old phase count) }
         ensures err { OnErr result (self.new ≡ self.old) }
     {
         let index = phase as usize;
         if index < self.phases.len() {
-            self.phases[index].feed()?;
+            self.phases[index].feed(count)?;
         }
         Ok(())
     }
 
-    /// A task is committed. Takes no memory.
-    pub fn commit(&mut self, phase: u32, place: u64)
-        ensures { self.new ≡ committed_in self.old phase place }
+    /// A task is committed. On want of memory nothing has changed.
+    pub fn commit(&mut self, phase: u32, place: u64) -> Result<(), AllocError>
+        ensures ok { OnOk result (self.new ≡ committed_in self.old phase place) }
+        ensures err { OnErr result (self.new ≡ self.old) }
     {
         let index = phase as usize;
         if index < self.phases.len() {
-            self.phases[index].commit(place);
+            self.phases[index].commit(place)?;
         }
+        Ok(())
+    }
+
+    /// Whether it has a phase of this number. Where it has none, nothing that is fed to it counts.
+    pub fn has_phase(&self, phase: u32) -> bool
+        ensures phases { IsTrue result ↔ (phase < length self.now.phases) }
+        ensures fed { result ≡ false → (count : ℕ) → grown self.now phase count ≡ self.now }
+    {
+        (phase as usize) < self.phases.len()
     }
 
     /// Its input ends.

@@ -89,7 +89,7 @@ fn first_of_jobs(queues: &BTreeMap<u64, Queue>, jobs: &BTreeSet<u64>, skip: &[Ta
 }
 
 impl Sched {
-    ghost use Rattle.std.specs.Prelude.{◌≡◌, [], ◌∷◌, ◌++◌, OnOk, OnErr};
+    ghost use Rattle.std.specs.Prelude.{◌≡◌, [], ◌∷◌, ◌++◌, ℕ, false, OnOk, OnErr};
     ghost use Rattle.std.specs.Option.{option_map};
     ghost use Rattle.mt_sched.specs.Plans.{IsAbove, plan_at};
     ghost use Rattle.mt_sched.specs.Plan.{all_ready, first_but, first_waiting};
@@ -118,17 +118,30 @@ impl Sched {
         Ok(())
     }
 
-    /// One item more is fed to a phase of a job. On want of memory, and at the 2^64th place, nothing has changed.
-    pub fn feed(&mut self, job: u64, phase: u32) -> Result<(), AllocError>
-        ensures ok { OnOk result (self.new ≡ with_plan self.old job (λ plan. grown plan phase 1)) }
+    // Whether a job that runs has a phase of this number.
+    fn has_phase(&self, job: u64, phase: u32) -> bool
+        ensures { result ≡ false → (count : ℕ) → with_plan self.now job (λ plan. grown plan phase count) ≡ self.now }
+    {
+        match self.queues.get(&job) {
+            Some(queue) => queue.has_phase(phase),
+            None => false,
+        }
+    }
+
+    /// So many items more are fed to a phase of a job, in one step. On want of memory, and at the 2^64th place, nothing has changed.
+    pub fn feed(&mut self, job: u64, phase: u32, count: u64) -> Result<(), AllocError>
+        ensures ok { OnOk result (self.new ≡ with_plan self.old job (λ plan. grown plan phase count)) }
         ensures err { OnErr result (self.new ≡ self.old) }
     {
+        if !self.has_phase(job, phase) {
+            return Ok(());
+        }
         mark(&mut self.active, &mut self.finishing, job)?;
         let mut fed = Ok(());
         let mut ready = false;
         let mut waits = false;
         if let Some(queue) = self.queues.get_mut(&job) {
-            fed = queue.feed(phase);
+            fed = queue.feed(phase, count);
             ready = queue.has_ready();
             waits = queue.waits();
         }
@@ -143,16 +156,17 @@ impl Sched {
         ensures err { OnErr result (self.new ≡ self.old) }
     {
         mark(&mut self.active, &mut self.finishing, task.job)?;
+        let mut committed = Ok(());
         let mut ready = false;
         let mut waits = false;
         if let Some(queue) = self.queues.get_mut(&task.job) {
-            queue.commit(task.phase, task.place);
+            committed = queue.commit(task.phase, task.place);
             ready = queue.has_ready();
             waits = queue.waits();
         }
         settle(&mut self.active, task.job, ready);
         settle(&mut self.finishing, task.job, waits);
-        Ok(())
+        committed
     }
 
     /// The input of a job ends. On want of memory nothing has changed.

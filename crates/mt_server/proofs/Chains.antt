@@ -3,7 +3,7 @@ use Rattle.std.proofs.Common.{◌≡◌, ◌≤◌, [], ◌∷◌, ◌++◌, len
 use Rattle.std.proofs.Math.Seq.{take-append_seam}
 use Rattle.std.proofs.lemmas.List.{append_cancel_left}
 use Rattle.mt_base.specs.Lists.{IsPrefixOf}
-use Rattle.mt_engine.specs.History.{Bytes, HasHistory, History}
+use Rattle.mt_opening.specs.History.{Bytes, HasHistory, History}
 use Rattle.mt_jobtext.specs.Archives.{ArchivesFrom}
 use Rattle.mt_jobtext.proofs.Archived.{archives_front, archives_grow}
 use Rattle.mt_lives.proofs.Chains.{lives_are_honest}

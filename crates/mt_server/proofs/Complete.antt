@@ -3,10 +3,10 @@ use Rattle.std.proofs.Common.{◌≡◌, ◌⊎◌, ℕ, Option, inl, inr, refl}
 use Rattle.std.specs.Prelude.{IfSome}
 use Rattle.mt_base.specs.Counts.{Rose}
 use Rattle.mt_disk.specs.Files.{Files}
-use Rattle.mt_engine.specs.History.{Bytes}
-use Rattle.mt_engine.specs.Opening.{IsReadable, IsRefused}
-use Rattle.mt_engine.specs.declared.opening.Unreadable.{Unreadable}
-use Rattle.mt_engine.proofs.Openings.{not_both}
+use Rattle.mt_opening.specs.History.{Bytes}
+use Rattle.mt_opening.specs.Opening.{IsReadable, IsRefused}
+use Rattle.mt_opening.specs.declared.opening.Unreadable.{Unreadable}
+use Rattle.mt_opening.proofs.Openings.{not_both}
 use Rattle.mt_runner.specs.declared.turn.Turn.TheVariants as turn
 use Rattle.mt_connection.specs.Outcomes.{Outcome, OutcomeAt}
 use Rattle.mt_connection.specs.declared.end.ConnectionEnd.TheVariants as ended

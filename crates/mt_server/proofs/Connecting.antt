@@ -6,10 +6,10 @@ use Rattle.mt_base.specs.Counts.{NeverFell}
 use Rattle.mt_base.specs.Lists.{IsPrefixOf}
 use Rattle.mt_disk.specs.CrashModel.{LeavesOnly}
 use Rattle.mt_disk.specs.Files.{Files}
-use Rattle.mt_engine.specs.Current.{EngineState, HasFront, IsBetween, told_size}
-use Rattle.mt_engine.specs.History.{Bytes, HasHistory, History, IsHistoryOf}
-use Rattle.mt_engine.proofs.Histories.{one_history}
-use Rattle.mt_engine.proofs.Taking.{history_taken}
+use Rattle.mt_opening.specs.Current.{EngineState, HasFront, IsBetween, told_size}
+use Rattle.mt_opening.specs.History.{Bytes, HasHistory, History, IsHistoryOf}
+use Rattle.mt_opening.proofs.Histories.{one_history}
+use Rattle.mt_opening.proofs.Taking.{history_taken}
 use Rattle.mt_lives.specs.Lives.{Lived}
 use Rattle.mt_log.specs.LogState.{Stands}
 use Rattle.mt_log.proofs.Standing.{stands_size}

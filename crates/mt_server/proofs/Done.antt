@@ -2,7 +2,7 @@
 use Rattle.std.proofs.Common.{◌≡◌, ℕ, true, Option, Some, sym, subst, ◌∙◌, arith}
 use Rattle.std.specs.Option.{ForSome}
 use Rattle.mt_disk.specs.Files.{Files}
-use Rattle.mt_engine.specs.History.{HasHistory, History}
+use Rattle.mt_opening.specs.History.{HasHistory, History}
 use Rattle.mt_model.specs.CommandStep.{replay}
 use Rattle.mt_runner.specs.Turning.{most_turns}
 use Rattle.mt_runner.specs.declared.turn.Turn.TheVariants as turn

@@ -3,7 +3,7 @@ use Rattle.std.proofs.Common.{◌≡◌, ℕ, Option, Some, None, ap, sym, subst
 use Rattle.std.specs.List.{flat_map}
 use Rattle.mt_base.specs.Counts.{Rose}
 use Rattle.mt_base.specs.Lists.{IsPrefixOf}
-use Rattle.mt_engine.specs.History.{History}
+use Rattle.mt_opening.specs.History.{History}
 use Rattle.mt_runner.specs.Account.{AccountSide, NoCountFell}
 use Rattle.mt_runner.specs.Turning.{Drained, TakesTurn, Working, added_of, most_turns}
 use Rattle.mt_runner.specs.declared.turn.Turn.{Turn}

@@ -7,8 +7,8 @@ use Rattle.mt_base.specs.Lists.{IsPrefixOf}
 use Rattle.mt_disk.specs.CrashModel.{LeavesOnly}
 use Rattle.mt_disk.specs.Files.{Files}
 use Rattle.mt_disk.proofs.Moments.{weakens}
-use Rattle.mt_engine.specs.Current.{IsBetween}
-use Rattle.mt_engine.specs.History.{Bytes, History}
+use Rattle.mt_opening.specs.Current.{IsBetween}
+use Rattle.mt_opening.specs.History.{Bytes, History}
 use Rattle.mt_model.specs.CommandStep.{replay}
 use Rattle.mt_model.specs.Honest.{Honest, HonestFrom}
 use Rattle.mt_model.specs.State.{State, first_state}

@@ -7,7 +7,7 @@ use Rattle.mt_answer.specs.Whole.{answer_of}
 use Rattle.mt_answer.proofs.Steps.{honest_answer}
 use Rattle.mt_base.specs.Counts.{RoseBy}
 use Rattle.mt_disk.specs.Files.{Files}
-use Rattle.mt_engine.specs.History.{Bytes, History}
+use Rattle.mt_opening.specs.History.{Bytes, History}
 use Rattle.mt_http.specs.declared.message.Head.{Head}
 use Rattle.mt_jobtext.specs.Archives.{ArchivesFrom, HasTexts}
 use Rattle.mt_jobtext.specs.JobTexts.{archive_of}

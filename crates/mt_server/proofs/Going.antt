@@ -5,8 +5,8 @@ use Rattle.std.specs.Option.{option_and_then, option_or}
 use Rattle.std.proofs.lemmas.List.Folds.{list_any-append}
 use Rattle.mt_disk.specs.Files.{Files}
 use Rattle.mt_edge.specs.Doors.{as_count}
-use Rattle.mt_engine.specs.Current.{HasFront}
-use Rattle.mt_engine.specs.History.{HasHistory}
+use Rattle.mt_opening.specs.Current.{HasFront}
+use Rattle.mt_opening.specs.History.{HasHistory}
 use Rattle.mt_runner.specs.Account.{AccountSide}
 use Rattle.mt_runner.specs.declared.turn.Turn.{Turn}
 use Rattle.mt_runner.specs.declared.turn.Turn.TheVariants as turn

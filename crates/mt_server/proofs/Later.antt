@@ -4,8 +4,8 @@ use Rattle.std.specs.List.{flat_map}
 use Rattle.mt_base.specs.Lists.{IsPrefixOf}
 use Rattle.mt_disk.specs.Files.{Files}
 use Rattle.mt_disk.specs.CrashModel.{LeavesOnly}
-use Rattle.mt_engine.specs.Current.{HasFront, IsBetween}
-use Rattle.mt_engine.specs.History.{Bytes, History}
+use Rattle.mt_opening.specs.Current.{HasFront, IsBetween}
+use Rattle.mt_opening.specs.History.{Bytes, History}
 use Rattle.mt_model.specs.State.{State}
 use Rattle.mt_runner.specs.Account.{AccountSide, told_time}
 use Rattle.mt_connection.specs.Endings.{Cut, Ends, Halted, Refusing, Served, Settled}

@@ -7,10 +7,10 @@ use Rattle.mt_base.specs.Counts.{NeverFell}
 use Rattle.mt_disk.specs.CrashModel.{LeavesOnly}
 use Rattle.mt_disk.specs.Files.{Files}
 use Rattle.mt_disk.proofs.Moments.{joins, leaves_now, weakens}
-use Rattle.mt_engine.specs.Current.{EngineState, IsBetween, IsCurrent}
-use Rattle.mt_engine.specs.History.{Bytes, HasHistory, History}
-use Rattle.mt_engine.specs.Opening.{KeepsLogs}
-use Rattle.mt_engine.specs.declared.opening.Unreadable.{Unreadable}
+use Rattle.mt_opening.specs.Current.{EngineState, IsBetween, IsCurrent}
+use Rattle.mt_opening.specs.History.{Bytes, HasHistory, History}
+use Rattle.mt_opening.specs.Opening.{KeepsLogs}
+use Rattle.mt_opening.specs.declared.opening.Unreadable.{Unreadable}
 use Rattle.mt_log.specs.LogImage.{SameLog, log_size}
 use Rattle.mt_model.specs.State.{State}
 use Rattle.mt_runner.specs.Account.{NoCountFell, Tasks, account_side, told_time}

@@ -2,8 +2,8 @@
 use Rattle.std.proofs.Common.{◌≡◌, ◌≢◌, ℕ, List, [], map, Option, Some, None, Bool, ap, sym, subst, ◌∙◌}
 use Rattle.std.proofs.lemmas.Option.{same_Some}
 use Rattle.mt_disk.specs.Files.{Files}
-use Rattle.mt_engine.specs.Current.{EngineState}
-use Rattle.mt_engine.specs.History.{Bytes}
+use Rattle.mt_opening.specs.Current.{EngineState}
+use Rattle.mt_opening.specs.History.{Bytes}
 use Rattle.mt_model.specs.CommandStep.{replay}
 use Rattle.mt_spawn.specs.Children.{Seen, ticket_of}
 use Rattle.mt_spawn.specs.declared.task.Left.{Left}

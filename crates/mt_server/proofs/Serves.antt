@@ -1,9 +1,9 @@
 -- A serve that began before its store was opened, and one whose store was not opened.
 use Rattle.std.proofs.Common.{◌≡◌, ℕ, List, [], ◌∷◌, Option, true, refl, sym, subst}
 use Rattle.mt_disk.specs.Files.{Files}
-use Rattle.mt_engine.specs.Current.{IsBetween}
-use Rattle.mt_engine.specs.History.{Bytes, History}
-use Rattle.mt_engine.specs.declared.opening.Unreadable.{Unreadable}
+use Rattle.mt_opening.specs.Current.{IsBetween}
+use Rattle.mt_opening.specs.History.{Bytes, History}
+use Rattle.mt_opening.specs.declared.opening.Unreadable.{Unreadable}
 use Rattle.mt_runner.specs.Account.{AccountSide, NoCountFell}
 use Rattle.mt_runner.specs.Turning.{MayTurn, TurnTaken}
 use Rattle.mt_connection.specs.Sides.{LinkSide, joined}

@@ -2,8 +2,8 @@
 use Rattle.std.proofs.Common.{◌≡◌, ◌≤◌, ℕ, true, arith}
 use Rattle.mt_base.specs.Counts.{NeverFell}
 use Rattle.mt_disk.specs.Files.{Files}
-use Rattle.mt_engine.specs.Current.{IsBetween}
-use Rattle.mt_engine.specs.History.{History}
+use Rattle.mt_opening.specs.Current.{IsBetween}
+use Rattle.mt_opening.specs.History.{History}
 use Rattle.mt_runner.specs.Account.{Tasks, account_side}
 use Rattle.mt_runner.specs.Turning.{MayTurn, TurnTaken}
 use Rattle.mt_connection.specs.Endings.{Served}

@@ -8,8 +8,8 @@ use Rattle.mt_disk.specs.declared.disk.FileNo.{FileNo}
 use Rattle.mt_disk.proofs.Moments.{leaves_now}
 use Rattle.mt_log.specs.LogImage.{Fit, SameLog, chosen_by, chosen_file}
 use Rattle.mt_log.specs.LogState.{LogState, Stands}
-use Rattle.mt_engine.specs.Opening.{IsRefused, KeepsLogs}
-use Rattle.mt_engine.specs.declared.opening.Unreadable.{Unreadable}
+use Rattle.mt_opening.specs.Opening.{IsRefused, KeepsLogs}
+use Rattle.mt_opening.specs.declared.opening.Unreadable.{Unreadable}
 use Rattle.mt_runner.specs.declared.turn.Turn.TheVariants as turn
 use Rattle.mt_connection.specs.declared.end.ConnectionEnd.TheVariants as ended
 use Rattle.mt_server.specs.Statuses.{IsBegun, IsReadyAfter, NotOpened, StaysOpen, code_of}

@@ -3,8 +3,8 @@ use Rattle.std.proofs.Common.{◌≡◌, ◌≢◌, ◌<◌, ◌+◌, ℕ, List,
 use Rattle.std.specs.Prelude.{IfSome}
 use Rattle.std.proofs.lemmas.Option.{IfSome_then}
 use Rattle.mt_base.specs.Counts.{Rose}
-use Rattle.mt_engine.specs.History.{Bytes}
-use Rattle.mt_engine.specs.declared.opening.Unreadable.{Unreadable}
+use Rattle.mt_opening.specs.History.{Bytes}
+use Rattle.mt_opening.specs.declared.opening.Unreadable.{Unreadable}
 use Rattle.mt_connection.specs.Outcomes.{ByEnd, Outcome, OutcomeAt}
 use Rattle.mt_connection.specs.declared.end.ConnectionEnd.{ConnectionEnd}
 use Rattle.mt_connection.specs.declared.end.ConnectionEnd.TheVariants as ended

@@ -2,10 +2,10 @@
 use Rattle.std.proofs.Common.{◌≡◌, ℕ, Option, Some, None, refl, sym, ap, subst, ◌∙◌, arith}
 use Rattle.std.specs.Prelude.{IfSome}
 use Rattle.mt_base.specs.Counts.{NeverFell, Rose}
-use Rattle.mt_engine.specs.History.{Bytes}
-use Rattle.mt_engine.specs.declared.opening.OpenEnd.{OpenEnd}
-use Rattle.mt_engine.specs.declared.opening.OpenEnd.TheVariants as opening
-use Rattle.mt_engine.specs.declared.opening.Unreadable.{Unreadable}
+use Rattle.mt_opening.specs.History.{Bytes}
+use Rattle.mt_opening.specs.declared.opening.OpenEnd.{OpenEnd}
+use Rattle.mt_opening.specs.declared.opening.OpenEnd.TheVariants as opening
+use Rattle.mt_opening.specs.declared.opening.Unreadable.{Unreadable}
 use Rattle.mt_connection.specs.declared.end.ConnectionEnd.TheVariants as ended
 use Rattle.mt_server.specs.Lines.{SaysLine, line_of}
 use Rattle.mt_server.specs.Statuses.{ByBytes, ByDisk, ByLink, BySpawner, IsOfServe, IsOfSession, IsUnopened, NotOpened, Tells}

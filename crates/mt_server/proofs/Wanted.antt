@@ -1,7 +1,7 @@
 -- What was read of the words: one thing.
 use Rattle.std.proofs.Common.{◌≡◌, ℕ, Ok, ap, sym, ◌∙◌}
 use Rattle.std.specs.Prelude.{Result}
-use Rattle.mt_engine.specs.History.{Bytes}
+use Rattle.mt_opening.specs.History.{Bytes}
 use Rattle.mt_settings.specs.declared.fault.UsageFault.{UsageFault}
 use Rattle.mt_settings.specs.declared.settings.Mode.TheVariants as mode
 use Rattle.mt_settings.specs.declared.settings.Settings.{Settings}

@@ -3,8 +3,8 @@ use Rattle.std.proofs.Common.{◌≡◌, ◌≢◌, ◌⊎◌, ◌≤◌, ℕ, B
 use Rattle.std.specs.Prelude.{IfSome}
 use Rattle.mt_base.specs.Counts.{NeverFell, Rose}
 use Rattle.mt_disk.specs.Files.{Files}
-use Rattle.mt_engine.specs.Current.{HasFront}
-use Rattle.mt_engine.specs.History.{Bytes}
+use Rattle.mt_opening.specs.Current.{HasFront}
+use Rattle.mt_opening.specs.History.{Bytes}
 use Rattle.mt_runner.specs.Account.{AccountSide}
 use Rattle.mt_runner.specs.ByAnswer.{GoesOn}
 use Rattle.mt_runner.specs.Turning.{Drained, Working, most_turns}

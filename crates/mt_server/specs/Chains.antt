@@ -1,7 +1,7 @@
 -- Runs one behind the other, as lives of one store: crashes among them, and what their own commands make of the whole history.
 use Rattle.std.specs.Prelude.{◌≡◌, ◌≤◌, ℕ, ⊤, List, [], ◌∷◌, ◌++◌, length}
 use Rattle.mt_disk.specs.Files.{Files}
-use Rattle.mt_engine.specs.History.{Bytes, HasHistory, History}
+use Rattle.mt_opening.specs.History.{Bytes, HasHistory, History}
 use Rattle.mt_jobtext.specs.Archives.{ArchivesFrom}
 use Rattle.mt_lives.specs.Lives.{AreHonest, Life, Lived, Lives}
 use Rattle.mt_lives.specs.World.{Attempt, Crash, Happens}

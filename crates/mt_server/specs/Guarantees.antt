@@ -4,8 +4,8 @@ use Rattle.std.specs.List.{AllByRecursion, Contains}
 use Rattle.mt_base.specs.Counts.{NeverFell, RoseBy}
 use Rattle.mt_base.specs.Lists.{IsPrefixOf}
 use Rattle.mt_disk.specs.Files.{Files}
-use Rattle.mt_engine.specs.Current.{HasFront, HasNearly, IsBetween}
-use Rattle.mt_engine.specs.History.{HasHistory, History, Bytes}
+use Rattle.mt_opening.specs.Current.{HasFront, HasNearly, IsBetween}
+use Rattle.mt_opening.specs.History.{HasHistory, History, Bytes}
 use Rattle.mt_jobtext.specs.Archives.{ArchivesFrom}
 use Rattle.mt_lives.specs.Lives.{Lived}
 use Rattle.mt_model.specs.CommandStep.{replay}

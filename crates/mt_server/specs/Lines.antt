@@ -5,9 +5,9 @@ use Rattle.std.specs.Fmt.{decimal}
 use Rattle.mt_base.specs.Counts.{Rose, NeverFell}
 use Rattle.mt_base.specs.Lists.{IsPrefixOf}
 use Rattle.mt_edge.specs.Stream.{GotMore}
-use Rattle.mt_engine.specs.History.{Bytes}
-use Rattle.mt_engine.specs.declared.opening.Unreadable.{Unreadable}
-use Rattle.mt_engine.specs.declared.opening.Unreadable.TheVariants as unreadable
+use Rattle.mt_opening.specs.History.{Bytes}
+use Rattle.mt_opening.specs.declared.opening.Unreadable.{Unreadable}
+use Rattle.mt_opening.specs.declared.opening.Unreadable.TheVariants as unreadable
 
 -- a number below 16 as a lower-case hexadecimal digit
 abbrev pub hex_digit : ℕ → ℕ

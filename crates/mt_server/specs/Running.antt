@@ -4,9 +4,9 @@ use Rattle.std.specs.Option.{ForSome}
 use Rattle.mt_disk.specs.CrashModel.{IsAtRest, LeavesOnly}
 use Rattle.mt_disk.specs.Files.{Files}
 use Rattle.mt_log.specs.LogImage.{Fit, SameLog}
-use Rattle.mt_engine.specs.History.{Bytes}
-use Rattle.mt_engine.specs.Opening.{IsReadable, IsRefused, KeepsLogs}
-use Rattle.mt_engine.specs.declared.opening.Unreadable.{Unreadable}
+use Rattle.mt_opening.specs.History.{Bytes}
+use Rattle.mt_opening.specs.Opening.{IsReadable, IsRefused, KeepsLogs}
+use Rattle.mt_opening.specs.declared.opening.Unreadable.{Unreadable}
 use Rattle.mt_spawn.specs.Children.{Seen}
 use Rattle.mt_spawn.specs.declared.task.Left.{Left}
 use Rattle.mt_runner.specs.Attempts.{RunnerState}

@@ -1,9 +1,9 @@
 -- How a run ended, and what each status says.
 use Rattle.std.specs.Prelude.{◌≡◌, ◌⊎◌, ◌+◌, ◌<◌, ℕ, Bool, true, false, List, Option, Ok}
 use Rattle.mt_base.specs.Counts.{Rose}
-use Rattle.mt_engine.specs.History.{Bytes}
-use Rattle.mt_engine.specs.declared.opening.OpenEnd.{OpenEnd}
-use Rattle.mt_engine.specs.declared.opening.OpenEnd.TheVariants as opening
+use Rattle.mt_opening.specs.History.{Bytes}
+use Rattle.mt_opening.specs.declared.opening.OpenEnd.{OpenEnd}
+use Rattle.mt_opening.specs.declared.opening.OpenEnd.TheVariants as opening
 use Rattle.mt_connection.specs.Outcomes.{ByEnd, Outcome}
 use Rattle.mt_connection.specs.declared.end.ConnectionEnd.{ConnectionEnd}
 use Rattle.mt_connection.specs.declared.end.ConnectionEnd.TheVariants as ended

@@ -2,7 +2,7 @@
 ghost use Rattle.std.specs.Prelude.{◌≡◌, ◌++◌, Bool, false, ℕ, List, length, map};
 ghost use Rattle.std.specs.List.{list_any};
 ghost use Rattle.mt_model.specs.State.{State};
-ghost use Rattle.mt_engine.specs.History.{Bytes, HasHistory};
+ghost use Rattle.mt_opening.specs.History.{Bytes, HasHistory};
 ghost use Rattle.mt_lives.specs.Lives.{RunsAreLives, ToldStays};
 ghost use Rattle.mt_runner.specs.Account.{AccountSide};
 ghost use Rattle.mt_connection.specs.Sides.{side_of};

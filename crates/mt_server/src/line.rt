@@ -5,7 +5,7 @@ ghost use Rattle.mt_server.specs.Lines.{SaysLine, hex_digit, hex_text, line_of};
 
 use mt_bytes::{put_bytes, put_decimal};
 use mt_edge::{Sink, write_all};
-use mt_engine::Unreadable;
+use mt_opening::Unreadable;
 use std::alloc::{AllocError, Global};
 
 // Writes a line, or a front of it before a counted fault, which is ignored.

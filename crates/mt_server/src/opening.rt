@@ -6,18 +6,18 @@ ghost use Rattle.mt_base.specs.Counts.{NeverFell};
 ghost use Rattle.mt_disk.specs.CrashModel.{IsAtRest, LeavesOnly};
 ghost use Rattle.mt_log.specs.LogImage.{Fit, SameLog};
 ghost use Rattle.mt_model.specs.State.{State};
-ghost use Rattle.mt_engine.specs.Current.{IsCurrent};
-ghost use Rattle.mt_engine.specs.History.{Bytes, HasHistory, History};
-ghost use Rattle.mt_engine.specs.Opening.{IsReadable, IsRefused, KeepsLogs};
-ghost use Rattle.mt_engine.specs.Ready.{EngineIsReady};
-ghost use Rattle.mt_engine.specs.declared.opening.Unreadable.{Unreadable};
+ghost use Rattle.mt_opening.specs.Current.{EngineIsReady, IsCurrent};
+ghost use Rattle.mt_opening.specs.History.{Bytes, HasHistory, History};
+ghost use Rattle.mt_opening.specs.Opening.{IsReadable, IsRefused, KeepsLogs};
+ghost use Rattle.mt_opening.specs.declared.opening.Unreadable.{Unreadable};
 ghost use Rattle.mt_server.specs.Statuses.{IsSilent, IsUnopened, NotOpened, Tells};
 
 use crate::line::{line_for, say};
 use crate::status::Status;
 use mt_disk::Disk;
 use mt_edge::Sink;
-use mt_engine::{Engine, OpenEnd};
+use mt_engine::Engine;
+use mt_opening::OpenEnd;
 use std::alloc::Global;
 
 // Says why a store was not opened, and gives the status for it.

@@ -3,7 +3,7 @@ ghost use Rattle.std.specs.Prelude.{◌≡◌, ◌⊎◌, ℕ, false, is_some, m
 ghost use Rattle.std.specs.Option.{ForSome};
 ghost use Rattle.mt_base.specs.Counts.{Rose};
 ghost use Rattle.mt_model.specs.State.{State};
-ghost use Rattle.mt_engine.specs.History.{Bytes, HasHistory, History};
+ghost use Rattle.mt_opening.specs.History.{Bytes, HasHistory, History};
 ghost use Rattle.mt_runner.specs.Account.{account_side, tasks_of, told_time};
 ghost use Rattle.mt_connection.specs.Sides.{joined, link_side, side_of};
 ghost use Rattle.mt_connection.specs.Transcript.{setting};

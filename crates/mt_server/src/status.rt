@@ -3,7 +3,7 @@ ghost use Rattle.std.specs.Prelude.{◌≡◌};
 ghost use Rattle.mt_server.specs.Statuses.{code_of};
 
 use mt_connection::ConnectionEnd;
-use mt_engine::Unreadable;
+use mt_opening::Unreadable;
 use mt_runner::Turn;
 
 /// How the serving of links ended.

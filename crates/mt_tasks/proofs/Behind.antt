@@ -11,10 +11,10 @@ use Rattle.mt_model.specs.Honest.{Bytes}
 use Rattle.mt_model.specs.State.{State}
 use Rattle.mt_types.specs.declared.command.Command.{Command}
 use Rattle.std.specs.Option.{ForSome}
-use Rattle.mt_engine.specs.Current.{EngineState, IsBetween, IsCurrent, IsWriting}
-use Rattle.mt_engine.specs.History.{HasHistory, History}
-use Rattle.mt_engine.specs.Ready.{EngineGoesOn, EngineIsReady, EngineStays}
-use Rattle.mt_engine.proofs.Held.{told_now}
+use Rattle.mt_opening.specs.Current.{EngineIsReady, EngineState, IsBetween, IsCurrent, IsWriting}
+use Rattle.mt_opening.specs.History.{HasHistory, History}
+use Rattle.mt_opening.proofs.Held.{told_now}
+use Rattle.mt_engine.specs.Ready.{EngineGoesOn, EngineStays}
 use Rattle.mt_tasks.specs.Adding.{Adds}
 use Rattle.mt_tasks.specs.declared.outcomes.OutcomeEnd.{OutcomeEnd}
 use Rattle.mt_tasks.specs.declared.outcomes.OutcomeEnd.TheVariants as outcome

@@ -30,11 +30,11 @@ use Rattle.mt_types.specs.declared.command.Command.{Command}
 use Rattle.mt_types.specs.declared.command.Command.TheVariants.{Close}
 use Rattle.mt_types.specs.declared.job.Job.{Job}
 use Rattle.mt_types.specs.declared.limits.TheConstants.{MOST_COMMANDS}
+use Rattle.mt_opening.specs.Current.{EngineState, IsCurrent}
+use Rattle.mt_opening.specs.History.{History}
+use Rattle.mt_opening.proofs.Held.{allowed_read}
 use Rattle.mt_engine.specs.Accepting.{HasRoomFor}
 use Rattle.mt_engine.specs.Archiving.{AreTextsOf, texts_size}
-use Rattle.mt_engine.specs.Current.{EngineState, IsCurrent}
-use Rattle.mt_engine.specs.History.{History}
-use Rattle.mt_engine.proofs.Held.{allowed_read}
 use Rattle.mt_engine.proofs.Objects.{jobs_read}
 use Rattle.mt_account.proofs.Commands.{size_of}
 use Rattle.mt_tasks.specs.Adding.{IsCloseOf, LacksRoom}

@@ -25,10 +25,10 @@ use Rattle.mt_types.specs.declared.body.Body.{Body}
 use Rattle.mt_types.specs.declared.command.Command.{Command}
 use Rattle.mt_types.specs.declared.limits.TheConstants.{MOST_COMMANDS}
 use Rattle.mt_types.specs.declared.refusal.Refusal.{Refusal}
+use Rattle.mt_opening.specs.Current.{EngineIsReady, EngineState, IsBetween, IsCurrent, IsWriting, Serves}
+use Rattle.mt_opening.specs.History.{HasHistory, History}
 use Rattle.mt_engine.specs.Accepting.{Accepts, Decided, HasRoomFor, Reaches, Takes, with_command}
-use Rattle.mt_engine.specs.Current.{EngineState, IsBetween, IsCurrent, IsWriting, Serves}
-use Rattle.mt_engine.specs.History.{HasHistory, History}
-use Rattle.mt_engine.specs.Ready.{EngineGoesOn, EngineIsReady, EngineStays}
+use Rattle.mt_engine.specs.Ready.{EngineGoesOn, EngineStays}
 use Rattle.mt_engine.specs.declared.engine.Accepted.{Accepted}
 use Rattle.mt_engine.specs.declared.engine.Accepted.TheVariants as accepted
 use Rattle.mt_engine.proofs.Accepts.{size_is}

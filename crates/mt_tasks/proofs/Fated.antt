@@ -38,11 +38,11 @@ use Rattle.mt_path.specs.AccountPath.{AccountPath}
 use Rattle.mt_records.specs.Laws.{HasLength, IsOfRange, IsOver}
 use Rattle.mt_records.specs.declared.range.Range.{Range}
 use Rattle.mt_records.proofs.Said.{over_made}
+use Rattle.mt_opening.specs.Current.{EngineState, IsCurrent}
+use Rattle.mt_opening.specs.History.{History}
+use Rattle.mt_opening.proofs.Held.{allowed_read}
 use Rattle.mt_engine.specs.Accepting.{HasRoomFor}
-use Rattle.mt_engine.specs.Current.{EngineState, IsCurrent}
-use Rattle.mt_engine.specs.History.{History}
 use Rattle.mt_engine.proofs.Accepts.{size_is}
-use Rattle.mt_engine.proofs.Held.{allowed_read}
 use Rattle.mt_log.specs.LogImage.{payloads_of}
 use Rattle.mt_account.proofs.Commands.{size_of}
 use Rattle.mt_tasks.specs.Adding.{Adds, HasRoom, IsFree, LacksRoom, LeavesEngine}

@@ -11,9 +11,9 @@ use Rattle.mt_log.specs.RunState.{RunState}
 use Rattle.mt_body.specs.Filling.{AtEnd}
 use Rattle.mt_body.specs.Stored.{IsStored, bytes_of}
 use Rattle.mt_body.proofs.Keeping.{keeps}
+use Rattle.mt_opening.specs.Current.{EngineState, IsWriting}
+use Rattle.mt_opening.specs.History.{History}
 use Rattle.mt_engine.specs.Archiving.{MoreIn}
-use Rattle.mt_engine.specs.Current.{EngineState, IsWriting}
-use Rattle.mt_engine.specs.History.{History}
 use Rattle.mt_model.specs.Bodies.{OfRecord}
 use Rattle.mt_model.specs.Honest.{Bytes}
 use Rattle.mt_model.specs.State.{State}

@@ -10,10 +10,10 @@ use Rattle.mt_body.specs.Stored.{IsStored, bytes_of, pieces_size}
 use Rattle.mt_body.specs.Storing.{Stores as BodyStores}
 use Rattle.mt_body.specs.declared.pieces.Storing.{Storing}
 use Rattle.mt_body.specs.declared.pieces.Storing.TheVariants as storing
+use Rattle.mt_opening.specs.Current.{EngineState, IsWriting}
+use Rattle.mt_opening.specs.History.{History}
 use Rattle.mt_engine.specs.Accepting.{StoresBody}
 use Rattle.mt_engine.specs.Archiving.{MoreIn}
-use Rattle.mt_engine.specs.Current.{EngineState, IsWriting}
-use Rattle.mt_engine.specs.History.{History}
 use Rattle.mt_model.specs.Honest.{Bytes}
 use Rattle.mt_model.specs.State.{State}
 use Rattle.mt_records.specs.Laws.{IsOfRange}

@@ -33,10 +33,9 @@ use Rattle.mt_phase.proofs.Runs.{orders_run}
 use Rattle.mt_spawn.specs.Orders.{input_from, run_from}
 use Rattle.mt_spawn.specs.declared.task.Order.{Order}
 use Rattle.mt_records.specs.Fate.{fate}
-use Rattle.mt_engine.specs.Current.{EngineState, IsCurrent, Serves}
-use Rattle.mt_engine.specs.History.{History}
-use Rattle.mt_engine.specs.Ready.{EngineIsReady}
-use Rattle.mt_engine.proofs.Held.{told_now}
+use Rattle.mt_opening.specs.Current.{EngineIsReady, EngineState, IsCurrent, Serves}
+use Rattle.mt_opening.specs.History.{History}
+use Rattle.mt_opening.proofs.Held.{told_now}
 use Rattle.mt_engine.proofs.Objects.{jobs_read, served_jobs}
 use Rattle.mt_tasks.specs.Reading.{IsLogThere, ReadsTask, bodies_of_task, bodies_with, first_place, input_left, left_at}
 use Rattle.mt_tasks.specs.Right.{IsRight, IsRightNow}

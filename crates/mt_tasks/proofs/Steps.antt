@@ -2,7 +2,7 @@
 use Rattle.std.proofs.Common.{◌≡◌, ◌≢◌, ℕ, Bool, true, false, is_some, Option, refl, sym, ap, ◌∙◌, subst, arith}
 use Rattle.mt_disk.specs.Files.{Files}
 use Rattle.mt_spawn.specs.Children.{SameCounts, SameLive, Seen}
-use Rattle.mt_engine.specs.Current.{EngineState}
+use Rattle.mt_opening.specs.Current.{EngineState}
 use Rattle.mt_engine.specs.Ready.{EngineStays}
 
 -- children that stay, and stay

@@ -19,8 +19,8 @@ use Rattle.mt_model.specs.State.{State, job_at}
 use Rattle.mt_records.specs.Fate.{fate}
 use Rattle.mt_jobtext.specs.JobTexts.{archive_of}
 use Rattle.mt_body.specs.Growth.{command_growth}
-use Rattle.mt_engine.specs.Current.{EngineState, IsCurrent}
-use Rattle.mt_engine.specs.History.{History}
+use Rattle.mt_opening.specs.Current.{EngineState, IsCurrent}
+use Rattle.mt_opening.specs.History.{History}
 use Rattle.mt_tasks.specs.declared.outcomes.OutcomeEnd.{OutcomeEnd}
 use Rattle.mt_tasks.specs.declared.outcomes.OutcomeEnd.TheVariants as outcome
 

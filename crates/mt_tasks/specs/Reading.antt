@@ -13,7 +13,7 @@ use Rattle.mt_feeds.specs.Reading.{task_items}
 use Rattle.mt_log.specs.LogImage.{chosen_file, magic_of, payloads_of, record_of}
 use Rattle.mt_log.specs.LogState.{told}
 use Rattle.mt_model.specs.State.{job_at}
-use Rattle.mt_engine.specs.Current.{EngineState}
+use Rattle.mt_opening.specs.Current.{EngineState}
 use Rattle.mt_tasks.specs.Standing.{is_ready_in}
 use Rattle.mt_tasks.specs.declared.bodies.Place.{Place}
 

@@ -13,8 +13,8 @@ use Rattle.mt_model.specs.Honest.{Bytes, MayGive}
 use Rattle.mt_model.specs.State.{State, job_at}
 use Rattle.mt_model.specs.Tasks.{is_task}
 use Rattle.mt_records.specs.Fate.{fate}
-use Rattle.mt_engine.specs.Current.{EngineState, IsCurrent}
-use Rattle.mt_engine.specs.History.{History}
+use Rattle.mt_opening.specs.Current.{EngineState, IsCurrent}
+use Rattle.mt_opening.specs.History.{History}
 
 -- a child that runs this task may only end in what its run gives in this state
 pub record IsRight {F : Type 0} (login : Bytes) (runs : Run → Bytes → Raw → Type 0) (may : F → Raw → Type 0) (s : State Bytes) (t : Task) (f : F) : Type 0 where

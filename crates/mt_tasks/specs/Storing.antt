@@ -6,9 +6,9 @@ use Rattle.mt_log.specs.RunState.{RunState}
 use Rattle.mt_body.specs.declared.pieces.Storing.{Storing}
 use Rattle.mt_body.specs.declared.pieces.Storing.TheVariants as storing
 use Rattle.mt_body.specs.Stored.{IsStored, bytes_of, pieces_size}
+use Rattle.mt_opening.specs.Current.{EngineState, IsWriting}
+use Rattle.mt_opening.specs.History.{History}
 use Rattle.mt_engine.specs.Archiving.{MoreIn}
-use Rattle.mt_engine.specs.Current.{EngineState, IsWriting}
-use Rattle.mt_engine.specs.History.{History}
 use Rattle.mt_model.specs.Bodies.{OfFate, OfRecord}
 use Rattle.mt_model.specs.Honest.{Bytes}
 use Rattle.mt_model.specs.State.{State}

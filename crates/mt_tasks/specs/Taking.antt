@@ -10,8 +10,8 @@ use Rattle.mt_model.specs.Honest.{Bytes}
 use Rattle.mt_model.specs.State.{State}
 use Rattle.mt_spawn.specs.Children.{MayBe}
 use Rattle.mt_spawn.specs.declared.task.Left.{Left}
-use Rattle.mt_engine.specs.Current.{EngineState, IsBetween, IsCurrent}
-use Rattle.mt_engine.specs.History.{History}
+use Rattle.mt_opening.specs.Current.{EngineState, IsBetween, IsCurrent}
+use Rattle.mt_opening.specs.History.{History}
 use Rattle.mt_tasks.specs.Adding.{Adds, IsCloseOf, IsCommitOf}
 use Rattle.mt_tasks.specs.Right.{IsRight}
 use Rattle.mt_tasks.specs.declared.outcomes.OutcomeEnd.{OutcomeEnd}

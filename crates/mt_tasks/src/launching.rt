@@ -2,7 +2,7 @@
 ghost use Rattle.std.specs.Prelude.{◌≡◌, ℕ, List, Option, false, true, None, Some, IfOk, IfSome};
 ghost use Rattle.mt_base.specs.Counts.{NeverFell, Rose};
 ghost use Rattle.mt_disk.specs.CrashModel.{OnlyRead};
-ghost use Rattle.mt_engine.specs.Ready.{EngineIsReady};
+ghost use Rattle.mt_opening.specs.Current.{EngineIsReady};
 ghost use Rattle.mt_model.specs.State.{job_at};
 ghost use Rattle.mt_phase.specs.Orders.{order_at};
 ghost use Rattle.mt_spawn.specs.Children.{Begins};

@@ -1,9 +1,9 @@
 //! The end of a task, and that of a job.
 ghost use Rattle.mt_disk.specs.CrashModel.{LeavesOnly};
+ghost use Rattle.mt_opening.specs.Current.{EngineIsReady, IsBetween, IsCurrent};
+ghost use Rattle.mt_opening.specs.History.{Bytes, History};
 ghost use Rattle.mt_engine.specs.Accepting.{HasRoomFor};
 ghost use Rattle.mt_engine.specs.Archiving.{texts_size};
-ghost use Rattle.mt_engine.specs.Current.{IsBetween, IsCurrent};
-ghost use Rattle.mt_engine.specs.History.{Bytes, History};
 ghost use Rattle.mt_engine.specs.Ready.{EngineStays};
 ghost use Rattle.mt_log.specs.LogState.{Stands};
 ghost use Rattle.mt_model.specs.Keeping.{IsSaidFate};
@@ -17,7 +17,7 @@ ghost use Rattle.mt_types.specs.declared.command.Command.{Command};
 ghost use Rattle.std.specs.Prelude.{◌≡◌, ◌≢◌, ◌≤◌, ℕ, List, false, true, is_some, None, Some};
 ghost use Rattle.mt_base.specs.Counts.{NeverFell, Rose};
 ghost use Rattle.mt_base.specs.declared.limits.TheConstants.{LAST_MOMENT};
-ghost use Rattle.mt_engine.specs.Ready.{EngineGoesOn, EngineIsReady};
+ghost use Rattle.mt_engine.specs.Ready.{EngineGoesOn};
 ghost use Rattle.mt_spawn.specs.Children.{SameLive};
 ghost use Rattle.mt_tasks.specs.Adding.{Committed, Ended, LeavesEngine};
 ghost use Rattle.mt_tasks.specs.Standing.{is_ready_in, waiting};

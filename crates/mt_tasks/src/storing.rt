@@ -2,8 +2,8 @@
 ghost use Rattle.std.specs.Prelude.{◌≡◌, ◌≢◌, ℕ, List, true};
 ghost use Rattle.mt_base.specs.Counts.{NeverFell, Rose};
 ghost use Rattle.mt_disk.specs.CrashModel.{LeavesOnly};
-ghost use Rattle.mt_engine.specs.Current.{IsWriting};
-ghost use Rattle.mt_engine.specs.History.{Bytes, HasHistory, History};
+ghost use Rattle.mt_opening.specs.Current.{IsWriting};
+ghost use Rattle.mt_opening.specs.History.{Bytes, HasHistory, History};
 ghost use Rattle.mt_engine.specs.Ready.{EngineStays, RunGoesOn, RunIsReady};
 ghost use Rattle.mt_model.specs.State.{State};
 ghost use Rattle.mt_spawn.specs.Children.{SameLive};

@@ -5,7 +5,7 @@ use Rattle.mt_types.specs.declared.task.Raw.{Raw}
 use Rattle.mt_types.specs.declared.task.Run.{Run}
 use Rattle.mt_spawn.specs.Children.{Seen}
 use Rattle.mt_spawn.specs.declared.task.Left.{Left}
-use Rattle.mt_engine.specs.Current.{EngineState}
+use Rattle.mt_opening.specs.Current.{EngineState}
 use Rattle.mt_runner.specs.Attempts.{ArePaired, RunnerState}
 use Rattle.mt_runner.specs.AtWork.{AtWork}
 

@@ -1,9 +1,9 @@
 use Rattle.std.proofs.Common.{◌+◌, ◌<◌, ◌≤◌, ◌⊎◌, ℕ, true, true≢false, refl, sym, ◌∙◌, subst}
 use Rattle.mt_body.specs.Growth.{growth}
 use Rattle.mt_codec.specs.Spelling.{IsWithinLimits}
+use Rattle.mt_opening.proofs.Held.{holding_now}
 use Rattle.mt_engine.specs.Accepting.{HasRoomFor}
 use Rattle.mt_engine.specs.Archiving.{texts_size}
-use Rattle.mt_engine.proofs.Held.{holding_now}
 use Rattle.mt_error.specs.Refusals.{plain}
 use Rattle.mt_error.specs.declared.code.ErrorCode.TheVariants as error
 use Rattle.mt_error.specs.declared.refused.Refused.{Refused}

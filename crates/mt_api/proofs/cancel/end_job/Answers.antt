@@ -1,9 +1,9 @@
 use Rattle.std.proofs.Common.{◌++◌, true, Some, inl, refl, sym, ap, ◌∙◌, subst, arith}
 use Rattle.mt_account.specs.Taken.{IsTaken}
+use Rattle.mt_opening.specs.Current.{EngineState}
+use Rattle.mt_opening.proofs.Held.{told_now}
 use Rattle.mt_engine.specs.Archiving.{ArchiveIn}
-use Rattle.mt_engine.specs.Current.{EngineState}
 use Rattle.mt_engine.proofs.Ends.{all_of}
-use Rattle.mt_engine.proofs.Held.{told_now}
 use Rattle.mt_codec.specs.Pieces.{blank_body}
 use Rattle.mt_codec.specs.Spelling.{IsWithinLimits}
 use Rattle.mt_log.specs.LogImage.{payloads_of}

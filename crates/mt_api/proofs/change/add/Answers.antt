@@ -3,7 +3,7 @@ use Rattle.mt_account.specs.Taken.{IsTaken}
 use Rattle.mt_answer.specs.Answer.{command_of, reply_to}
 use Rattle.mt_answer.specs.Judging.{len_of, md5_of}
 use Rattle.mt_body.specs.Stored.{bytes_of}
-use Rattle.mt_engine.specs.Current.{EngineState}
+use Rattle.mt_opening.specs.Current.{EngineState}
 use Rattle.mt_engine.specs.declared.engine.Accepted.TheVariants as accepted
 use Rattle.mt_model.specs.CommandStep.{replay}
 use Rattle.mt_model.specs.Rows.{Rows}

@@ -1,5 +1,5 @@
 use Rattle.std.proofs.Common.{◌≡◌, refl, subst, sym}
-use Rattle.mt_engine.specs.History.{Bytes}
+use Rattle.mt_opening.specs.History.{Bytes}
 use Rattle.mt_http.specs.BodyReading.{body_left}
 use Rattle.mt_api.specs.Steps.{IsAll}
 use Rattle.mt_api.specs.declared.answered.Answered.TheVariants as answered

@@ -4,7 +4,7 @@ use Rattle.mt_account.specs.Taken.{IsTaken}
 use Rattle.mt_answer.specs.JobAnswer.{job_command_of, job_reply_to}
 use Rattle.mt_answer.specs.JobLaws.{IsKindOfJobs}
 use Rattle.mt_answer.specs.declared.posted.Posted.{Posted}
-use Rattle.mt_engine.proofs.Held.{told_now}
+use Rattle.mt_opening.proofs.Held.{told_now}
 use Rattle.mt_log.specs.LogImage.{payloads_of}
 use Rattle.mt_log.specs.RunState.{RunState}
 use Rattle.mt_types.specs.Kinds.{Kind, OnRows, OnJobs, OnEnds, OnUploads, kind_of}

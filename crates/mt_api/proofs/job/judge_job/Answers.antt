@@ -1,6 +1,6 @@
 use Rattle.std.proofs.Common.{Some, refl, sym, ◌∙◌}
 use Rattle.md5.specs.Md5.{md5}
-use Rattle.mt_engine.proofs.Held.{holding_now}
+use Rattle.mt_opening.proofs.Held.{holding_now}
 use Rattle.mt_log.specs.LogImage.{payloads_of}
 use Rattle.mt_reply.specs.Replies.{error_reply}
 use Rattle.mt_api.proofs.Ends.{held_replied, held_sends, idle_keeps, not_disk, settled_replied}

@@ -1,7 +1,7 @@
 use Rattle.std.proofs.Common.{◌++◌, ◌∷◌, [], ℕ, ◌+◌, refl, sym, ap, ◌∙◌, subst, true≢false}
 use Rattle.mt_answer.specs.JobAnswer.{job_reply_to}
 use Rattle.mt_body.specs.Stored.{bytes_of}
-use Rattle.mt_engine.specs.Current.{EngineState}
+use Rattle.mt_opening.specs.Current.{EngineState}
 use Rattle.mt_engine.specs.declared.engine.Accepted.TheVariants as accepted
 use Rattle.mt_error.specs.declared.refused.Refused.{Refused}
 use Rattle.mt_model.specs.CommandStep.{replay}

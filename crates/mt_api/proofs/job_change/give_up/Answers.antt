@@ -1,5 +1,5 @@
 use Rattle.std.proofs.Common.{inl, refl, ap}
-use Rattle.mt_engine.specs.Current.{EngineState}
+use Rattle.mt_opening.specs.Current.{EngineState}
 use Rattle.mt_api.proofs.Ends.{memory_not_disk}
 use Rattle.mt_api.proofs.job_change.give_up.Goals as goal
 

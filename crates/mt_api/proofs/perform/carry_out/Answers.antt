@@ -2,7 +2,7 @@ use Rattle.std.proofs.Common.{◌≡◌, false, Option, Some, None, refl, sym, a
 use Rattle.std.specs.Prelude.{is_some}
 use Rattle.mt_answer.specs.Answer.{command_of, reply_to}
 use Rattle.mt_answer.specs.Judging.{len_of, md5_of}
-use Rattle.mt_engine.proofs.Held.{told_now}
+use Rattle.mt_opening.proofs.Held.{told_now}
 use Rattle.mt_log.specs.LogImage.{payloads_of}
 use Rattle.mt_model.specs.Rows.{Rows}
 use Rattle.mt_types.specs.declared.body.Body.{Body}

@@ -1,5 +1,5 @@
 use Rattle.std.proofs.Common.{◌≡◌, ◌+◌, ℕ, sym, ap, ◌∙◌}
-use Rattle.mt_engine.proofs.Held.{holding_in}
+use Rattle.mt_opening.proofs.Held.{holding_in}
 use Rattle.mt_api.specs.Answered.{used}
 use Rattle.mt_api.specs.declared.answered.Answered.TheVariants as answered
 use Rattle.mt_api.specs.declared.bodies.BodyEnd.TheVariants as body_end

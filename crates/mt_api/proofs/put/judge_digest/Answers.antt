@@ -3,8 +3,8 @@ use Rattle.md5.specs.Md5.{md5}
 use Rattle.mt_answer.specs.Answer.{Answer}
 use Rattle.mt_answer.specs.Judging.{len_of, refusal_of}
 use Rattle.mt_body.specs.Stored.{pieces_that_fit}
-use Rattle.mt_engine.specs.History.{Bytes}
-use Rattle.mt_engine.proofs.Held.{holding_in}
+use Rattle.mt_opening.specs.History.{Bytes}
+use Rattle.mt_opening.proofs.Held.{holding_in}
 use Rattle.mt_model.specs.Rows.{Rows}
 use Rattle.mt_types.specs.declared.body.Body.{Body}
 use Rattle.mt_api.specs.Answered.{used}

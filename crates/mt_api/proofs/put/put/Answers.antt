@@ -1,8 +1,8 @@
 use Rattle.std.proofs.Common.{◌≡◌, ◌+◌, ◌++◌, ◌<◌, ◌≤◌, [], ℕ, length, true≢false, inl, refl, sym, ap, ◌∙◌, subst, arith}
 use Rattle.mt_body.specs.Stored.{pieces_size, pieces_that_fit}
-use Rattle.mt_engine.specs.Current.{EngineState}
+use Rattle.mt_opening.specs.Current.{EngineState}
+use Rattle.mt_opening.proofs.Held.{holding_now, told_now}
 use Rattle.mt_engine.proofs.Ends.{all_of}
-use Rattle.mt_engine.proofs.Held.{holding_now, told_now}
 use Rattle.mt_http.specs.BodyReading.{body_left}
 use Rattle.mt_log.specs.LogImage.{payloads_of}
 use Rattle.mt_log.specs.LogState.{Stands}

@@ -2,8 +2,8 @@ use Rattle.std.proofs.Common.{◌≡◌, ◌+◌, ◌++◌, [], ℕ, List, lengt
 use Rattle.md5.specs.Md5.{md5}
 use Rattle.mt_answer.specs.Answer.{Answer}
 use Rattle.mt_body.specs.Stored.{pieces_that_fit}
-use Rattle.mt_engine.specs.History.{Bytes}
-use Rattle.mt_engine.proofs.Held.{holding_in}
+use Rattle.mt_opening.specs.History.{Bytes}
+use Rattle.mt_opening.proofs.Held.{holding_in}
 use Rattle.mt_error.specs.declared.refused.Refused.{Refused}
 use Rattle.mt_http.specs.BodyReading.{body_left}
 use Rattle.mt_reply.specs.Replies.{error_reply}

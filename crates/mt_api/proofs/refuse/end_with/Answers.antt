@@ -1,5 +1,5 @@
 use Rattle.std.proofs.Common.{refl, ap, ◌∙◌}
-use Rattle.mt_engine.specs.Current.{EngineState}
+use Rattle.mt_opening.specs.Current.{EngineState}
 use Rattle.mt_api.proofs.refuse.end_with.Goals as goal
 
 pub returns-in-Done-clause-current : goal.returns-in-Done-clause-current

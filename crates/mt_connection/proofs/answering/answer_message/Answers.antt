@@ -6,8 +6,8 @@ use Rattle.mt_api.specs.declared.answered.Answered.TheVariants as answered
 use Rattle.mt_disk.specs.CrashModel.{LeavesOnly}
 use Rattle.mt_disk.specs.Files.{Files}
 use Rattle.mt_edge.specs.Stream.{GotMore}
-use Rattle.mt_engine.specs.Current.{IsBetween, Over, Serves, told_size}
-use Rattle.mt_engine.specs.History.{Bytes, History}
+use Rattle.mt_opening.specs.Current.{IsBetween, Over, Serves, told_size}
+use Rattle.mt_opening.specs.History.{Bytes, History}
 use Rattle.mt_http.specs.Body.{BodyState, first_state}
 use Rattle.mt_http.specs.Framing.{limit_of}
 use Rattle.mt_http.specs.Options.{interim}

@@ -1,8 +1,8 @@
 -- The exchanges so far, and then one more, or the end.
 use Rattle.std.proofs.Common.{◌≡◌, ◌<◌, [], ◌∷◌, ◌++◌, ◌+◌, length, refl, ap, ◌∙◌, arith, length-append}
 use Rattle.std.specs.Prelude.{is_some}
-use Rattle.mt_engine.specs.Current.{told_size}
-use Rattle.mt_engine.specs.History.{History}
+use Rattle.mt_opening.specs.Current.{told_size}
+use Rattle.mt_opening.specs.History.{History}
 use Rattle.mt_runner.specs.Account.{AccountSide, account_side, tasks_of, told_time}
 use Rattle.mt_connection.specs.Sides.{side_of}
 use Rattle.mt_connection.specs.Transcript.{Setting, setting}

@@ -2,9 +2,9 @@
 use Rattle.std.proofs.Common.{◌≡◌, List, length, false}
 use Rattle.std.specs.List.{list_any}
 use Rattle.std.specs.Prelude.{is_some}
-use Rattle.mt_engine.specs.Current.{Over}
-use Rattle.mt_engine.specs.History.{Bytes, History}
-use Rattle.mt_engine.specs.Ready.{EngineGoesOn, EngineIsReady}
+use Rattle.mt_opening.specs.Current.{EngineIsReady, Over}
+use Rattle.mt_opening.specs.History.{Bytes, History}
+use Rattle.mt_engine.specs.Ready.{EngineGoesOn}
 use Rattle.mt_model.specs.State.{State}
 use Rattle.mt_runner.specs.Account.{tasks_of, told_time}
 use Rattle.mt_runner.specs.AtWork.{AtWork}

@@ -1,5 +1,5 @@
 -- A reply that was loaded, and one that could not be.
-use Rattle.mt_engine.proofs.Looks.{there_on}
+use Rattle.mt_opening.proofs.Looks.{there_on}
 use Rattle.mt_http.specs.Options as options
 use Rattle.mt_connection.proofs.Sending.{some_body, unread}
 use Rattle.mt_connection.proofs.respond.respond.Goals as goal

@@ -1,8 +1,8 @@
 -- A message, and the turn behind it where it was answered.
 use Rattle.std.proofs.Common.{Bool, refl, sym, subst, ◌∙◌}
 use Rattle.std.specs.Prelude.{is_some}
-use Rattle.mt_engine.specs.Current.{told_size}
-use Rattle.mt_engine.specs.History.{History}
+use Rattle.mt_opening.specs.Current.{told_size}
+use Rattle.mt_opening.specs.History.{History}
 use Rattle.mt_runner.specs.Account.{account_side, tasks_of, told_time}
 use Rattle.mt_runner.specs.Turning.{Working}
 use Rattle.mt_runner.proofs.Drains.{Took, at_setting}

@@ -1,6 +1,6 @@
 -- What is found, by the place of the gate.
 use Rattle.std.proofs.Common.{◌≡◌, Err, rules, sym, ◌∙◌}
-use Rattle.mt_engine.specs.declared.opening.OpenEnd.TheVariants as opening
+use Rattle.mt_opening.specs.declared.opening.OpenEnd.TheVariants as opening
 use Rattle.mt_server.proofs.Settling.{ready_open}
 use Rattle.mt_drill.proofs.Empty.{found_empty, found_none, found_record}
 use Rattle.mt_drill.proofs.look.look.Goals as goal

@@ -1,7 +1,7 @@
 -- A drill, by what it finds.
 use Rattle.std.proofs.Common.{◌≡◌, ◌∷◌, [], Ok, inl, inr, ap, sym, ◌∙◌}
 use Rattle.std.specs.Prelude.{is_some}
-use Rattle.mt_engine.proofs.Openings.{not_both}
+use Rattle.mt_opening.proofs.Openings.{not_both}
 use Rattle.mt_model.specs.State.{first_state}
 use Rattle.mt_drill.proofs.Empty.{empty_history}
 use Rattle.mt_drill.proofs.Made.{fronts_from, fronts_opened}

@@ -23,7 +23,7 @@ open-requires-clause-plan g c =
     let n = job.number in
     let there : Some c.in-Some.queue.now ≡ Some (plan_of c.enter.new.self.job) =
     c.in-Some.ensures
-    ∙ ap (λ s. plan_at s n) (c.in_ok-feed_all.ensures ∙ ap (λ s. with_plan s n (λ plan. grown plan (e.phase + 1) c.count_of-count.result)) c.in_ok-commit.ensures.ok)
+    ∙ ap (λ s. plan_at s n) (c.in_ok-feed.ensures.ok ∙ ap (λ s. with_plan s n (λ plan. grown plan (e.phase + 1) c.count_of-count.result)) c.in_ok-commit.ensures.ok)
     ∙ ap (λ k. plan_at (with_plan (with_plan c.args.sched.now n (λ plan. committed_in plan e.phase e.place)) n (λ plan. grown plan (e.phase + 1) k)) n) c.count_of-count.ensures
     ∙ plan_entered job e n c.args.sched.now c.requires.sound c.requires.plan
     ∙ ap (λ j. Some (plan_of j)) (sym c.in_ok-enter.ensures.job) in
@@ -37,7 +37,7 @@ returns-in-Some-clause-plans g c =
     let plans = c.args.sched.now in
     on_ok_weaker c.open.result
     (λ opened.
-    c.in_ok-feed_all.ensures
+    c.in_ok-feed.ensures.ok
     ∙ ap (λ s. with_plan s n (λ plan. grown plan (e.phase + 1) c.count_of-count.result)) c.in_ok-commit.ensures.ok
     ∙ with_plan_twice n (λ plan. committed_in plan e.phase e.place) (λ plan. grown plan (e.phase + 1) c.count_of-count.result) plans
     ∙ ap (λ k. with_plan plans n (λ plan. grown (committed_in plan e.phase e.place) (e.phase + 1) k)) c.count_of-count.ensures)
@@ -50,7 +50,7 @@ returns-in-None-clause-kept g c =
     let n = job.number in
     let never : None ≡ Some (plan_of (with_entry e job)) =
     c.in-None.ensures
-    ∙ ap (λ s. plan_at s n) (c.in_ok-feed_all.ensures ∙ ap (λ s. with_plan s n (λ plan. grown plan (e.phase + 1) c.count_of-count.result)) c.in_ok-commit.ensures.ok)
+    ∙ ap (λ s. plan_at s n) (c.in_ok-feed.ensures.ok ∙ ap (λ s. with_plan s n (λ plan. grown plan (e.phase + 1) c.count_of-count.result)) c.in_ok-commit.ensures.ok)
     ∙ ap (λ k. plan_at (with_plan (with_plan c.args.sched.now n (λ plan. committed_in plan e.phase e.place)) n (λ plan. grown plan (e.phase + 1) k)) n) c.count_of-count.ensures
     ∙ plan_entered job e n c.args.sched.now c.requires.sound c.requires.plan in
     cc
@@ -61,7 +61,7 @@ returns-in-None-clause-plans g c =
     let e = c.args.entry in
     let n = job.number in
     let plans = c.args.sched.now in
-    c.in_ok-feed_all.ensures
+    c.in_ok-feed.ensures.ok
     ∙ ap (λ s. with_plan s n (λ plan. grown plan (e.phase + 1) c.count_of-count.result)) c.in_ok-commit.ensures.ok
     ∙ with_plan_twice n (λ plan. committed_in plan e.phase e.place) (λ plan. grown plan (e.phase + 1) c.count_of-count.result) plans
     ∙ ap (λ k. with_plan plans n (λ plan. grown (committed_in plan e.phase e.place) (e.phase + 1) k)) c.count_of-count.ensures

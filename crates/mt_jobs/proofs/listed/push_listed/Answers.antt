@@ -11,8 +11,8 @@ returns-clause-sched g c =
     let job = c.args.kept.job in
     let first = first_plan (kinds_of job.document.phases) in
     let plans = c.args.sched.now in
-    on_ok_weaker c.feed_all.result
+    on_ok_weaker c.feed.result
     (λ fed.
-    plans_fed job.number c.len-count.result first plans c.push_job.new.sched c.feed_all.new.sched c.requires.above c.in_ok-push_job.ensures.sched fed
+    plans_fed job.number c.len-count.result first plans c.push_job.new.sched c.feed.new.self c.requires.above c.in_ok-push_job.ensures.sched fed
     ∙ ap {B = List (ℕ × Plan)} (λ n. plans ++ (job.number, grown first 0 n) ∷ []) c.len-count.ensures)
-    c.feed_all.ensures
+    c.feed.ensures.ok

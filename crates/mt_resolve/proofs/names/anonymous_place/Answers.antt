@@ -1,17 +1,36 @@
-use Rattle.std.proofs.Common.{◌≡◌, [], ◌∷◌, codes, sym, ap, subst, ◌∙◌}
+use Rattle.std.proofs.Common.{◌≡◌, List, ℕ, ap, ◌∙◌}
 use Rattle.mt_path.specs.AccountPath.{IsPath}
+use Rattle.mt_path.specs.Keys.{IsPathKey, key_bytes}
 use Rattle.mt_path.specs.declared.area.Area.TheVariants.{Jobs}
-use Rattle.mt_model.specs.Names.{job_name}
+use Rattle.mt_path.proofs.Held.{IsPathKey-from_parts, path_at-is}
+use Rattle.mt_model.specs.Names.{anonymous_place}
+use Rattle.mt_model.specs.Resolve.{Committing}
 use Rattle.mt_model.proofs.LawfulNames.{output_is_path}
-use Rattle.mt_resolve.specs.Committing.{IsCommitting}
 use Rattle.mt_resolve.proofs.names.anonymous_place.Goals as goal
 
-pub from_parts-requires : goal.from_parts-requires
-from_parts-requires c =
-    let v = c.args.c.now in
-    let fine = subst IsCommitting c.c.view_is c.c.invariant in
-    let id : c.in_ok-id.id ≡ job_name v.job = c.in_ok-id.ensures ∙ ap (λ x. job_name x.job) c.c.view_is in
-    subst (λ id. IsPath (record { area = Jobs; parts = id ∷ c.in_ok-stor.stor ∷ c.in_ok-name.name ∷ [] })) (sym id)
-    (subst (λ stor. IsPath (record { area = Jobs; parts = job_name v.job ∷ stor ∷ c.in_ok-name.name ∷ [] })) (sym c.in_ok-stor.ensures)
-    (subst (λ name. IsPath (record { area = Jobs; parts = job_name v.job ∷ codes "stor" ∷ name ∷ [] })) (sym c.in_ok-name.ensures)
-    (output_is_path v.root fine.root fine.short v.phase fine.phase c.args.number v.job)))
+-- what was spelled is the key of the place
+spelled : (job phase number : ℕ) (root now : List ℕ) (key : List ℕ) → key ≡ key_bytes (anonymous_place job now phase number).parts → now ≡ root → key ≡ key_bytes (anonymous_place job root phase number).parts
+spelled job phase number root now key is same = is ∙ ap (λ r. key_bytes (anonymous_place job r phase number).parts) same
+
+held : (job phase number : ℕ) (root key : List ℕ) → IsPath (anonymous_place job root phase number) → key ≡ key_bytes (anonymous_place job root phase number).parts → IsPathKey Jobs key
+held job phase number root key is e = IsPathKey-from_parts Jobs (anonymous_place job root phase number).parts key is e
+
+pub from_key-requires-clause-path : goal.from_key-requires-clause-path
+from_key-requires-clause-path c =
+    let fine = c.c.invariant in
+    (held c.c.inside.job c.c.inside.phase c.args.number c.c.inside.root c.in_ok-key.key.items (output_is_path c.c.inside.root fine.root fine.short c.c.inside.phase fine.phase c.args.number c.c.inside.job)
+    (spelled c.c.inside.job c.c.inside.phase c.args.number c.c.inside.root c.as_bytes.result.now c.in_ok-key.key.items c.in_ok-key.ensures c.as_bytes.ensures)).path
+
+pub from_key-requires-clause-key : goal.from_key-requires-clause-key
+from_key-requires-clause-key c =
+    let fine = c.c.invariant in
+    (held c.c.inside.job c.c.inside.phase c.args.number c.c.inside.root c.in_ok-key.key.items (output_is_path c.c.inside.root fine.root fine.short c.c.inside.phase fine.phase c.args.number c.c.inside.job)
+    (spelled c.c.inside.job c.c.inside.phase c.args.number c.c.inside.root c.as_bytes.result.now c.in_ok-key.key.items c.in_ok-key.ensures c.as_bytes.ensures)).whole
+
+pub returns : goal.returns
+returns c =
+    let fine = c.c.invariant in
+    c.from_key.ensures
+    ∙ path_at-is Jobs (anonymous_place c.c.inside.job c.c.inside.root c.c.inside.phase c.args.number).parts c.in_ok-key.key.items (output_is_path c.c.inside.root fine.root fine.short c.c.inside.phase fine.phase c.args.number c.c.inside.job)
+    (spelled c.c.inside.job c.c.inside.phase c.args.number c.c.inside.root c.as_bytes.result.now c.in_ok-key.key.items c.in_ok-key.ensures c.as_bytes.ensures)
+    ∙ ap (λ (v : Committing). anonymous_place v.job v.root v.phase c.args.number) c.c.view_is

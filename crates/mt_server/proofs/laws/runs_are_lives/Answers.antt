@@ -1,4 +1,4 @@
-use Rattle.mt_engine.specs.History.{HasHistory}
+use Rattle.mt_opening.specs.History.{HasHistory}
 use Rattle.mt_lives.proofs.Chains.{runs_are_lives, told_stays}
 use Rattle.mt_server.proofs.laws.runs_are_lives.Goals as goal
 

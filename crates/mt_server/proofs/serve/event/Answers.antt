@@ -2,8 +2,8 @@
 use Rattle.std.proofs.Common.{Bool, false, inl, refl, sym, subst, ◌∙◌, arith}
 use Rattle.std.specs.Prelude.{is_some}
 use Rattle.std.proofs.lemmas.Option.{none-some}
-use Rattle.mt_engine.specs.Current.{told_size}
-use Rattle.mt_engine.specs.History.{History}
+use Rattle.mt_opening.specs.Current.{told_size}
+use Rattle.mt_opening.specs.History.{History}
 use Rattle.mt_runner.specs.Account.{AccountSide, account_side, tasks_of, told_time}
 use Rattle.mt_runner.specs.Turning.{Drained, Working, most_turns}
 use Rattle.mt_runner.proofs.Drains.{Ended, at_setting}

@@ -2,7 +2,7 @@
 use Rattle.std.proofs.Common.{Bool, false, refl, ap, subst, ◌∙◌, arith}
 use Rattle.std.specs.Prelude.{Err, is_some}
 use Rattle.mt_disk.proofs.Moments.{leaves_now}
-use Rattle.mt_engine.specs.Current.{IsBetween, told_size}
+use Rattle.mt_opening.specs.Current.{IsBetween, told_size}
 use Rattle.mt_log.specs.LogImage.{SameLog}
 use Rattle.mt_runner.specs.Account.{account_side, tasks_of, told_time}
 use Rattle.mt_connection.proofs.Crashes.{between_first, told_later}

@@ -2,7 +2,7 @@
 use Rattle.std.proofs.Common.{◌≡◌, ◌<◌, Bool, false, ◌∷◌, [], ◌++◌, refl, sym, subst, ◌∙◌, arith}
 use Rattle.std.specs.Prelude.{is_some}
 use Rattle.std.proofs.lemmas.Bool.{ltb-false, ltb-true}
-use Rattle.mt_engine.specs.Current.{told_size}
+use Rattle.mt_opening.specs.Current.{told_size}
 use Rattle.mt_runner.specs.Account.{account_side, tasks_of, told_time}
 use Rattle.mt_runner.proofs.Drains.{goes_on_more}
 use Rattle.mt_connection.specs.Sides.{side_of}

@@ -2,9 +2,8 @@
 use Rattle.std.proofs.Common.{◌≡◌, ◌≤◌, ◌<◌, ◌+◌, List, false}
 use Rattle.std.specs.Prelude.{is_some}
 use Rattle.mt_base.specs.Counts.{NeverFell}
-use Rattle.mt_engine.specs.Current.{Over, told_size}
-use Rattle.mt_engine.specs.History.{Bytes, History}
-use Rattle.mt_engine.specs.Ready.{EngineIsReady}
+use Rattle.mt_opening.specs.Current.{EngineIsReady, Over, told_size}
+use Rattle.mt_opening.specs.History.{Bytes, History}
 use Rattle.mt_model.specs.State.{State}
 use Rattle.mt_runner.specs.Account.{account_side, tasks_of, told_time}
 use Rattle.mt_runner.specs.AtWork.{AtWork}

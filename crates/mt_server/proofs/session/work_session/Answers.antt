@@ -1,8 +1,8 @@
 -- One connection, of which the source and the sink are the two sides, and a drain where it ended well.
 use Rattle.std.proofs.Common.{◌≡◌, Bool, refl, sym, ◌∙◌, rules}
 use Rattle.std.specs.Prelude.{is_some}
-use Rattle.mt_engine.specs.Current.{told_size}
-use Rattle.mt_engine.specs.History.{History}
+use Rattle.mt_opening.specs.Current.{told_size}
+use Rattle.mt_opening.specs.History.{History}
 use Rattle.mt_runner.specs.Account.{account_side, tasks_of, told_time}
 use Rattle.mt_runner.specs.Turning.{Working, most_turns}
 use Rattle.mt_runner.proofs.Drains.{Ended, at_setting}

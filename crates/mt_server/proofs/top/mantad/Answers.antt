@@ -1,13 +1,13 @@
 -- The run, by its status.
 use Rattle.std.proofs.Common.{◌≡◌, ◌⊎◌, ℕ, inl, inr, ap, subst, sym, ◌∙◌}
 use Rattle.std.specs.Prelude.{IfSome, false, is_some, map, string_bytes}
-use Rattle.mt_engine.specs.History.{HasHistory}
+use Rattle.mt_opening.specs.History.{HasHistory}
 use Rattle.mt_connection.specs.Transcript.{setting}
 use Rattle.mt_server.proofs.Complete.{SessionEnds, serve_ends, session_ends}
 use Rattle.mt_server.proofs.Connecting.{is_stood}
 use Rattle.mt_server.proofs.Done.{only_files, serve_done, session_done}
 use Rattle.mt_server.proofs.Finishing.{finished_by}
-use Rattle.mt_engine.proofs.Openings.{not_both}
+use Rattle.mt_opening.proofs.Openings.{not_both}
 use Rattle.mt_server.specs.Statuses.{ByBytes, IsAnswered, IsSilent, IsUnopened, code_of}
 use Rattle.mt_server.specs.declared.status.Status.{Status}
 use Rattle.mt_server.proofs.Settling.{ready_by}

@@ -4,9 +4,9 @@ use Rattle.mt_log.specs.LogImage.{payloads_of}
 use Rattle.mt_log.specs.RunState.{RunState}
 use Rattle.mt_body.specs.Growth.{archive_pieces, command_pieces}
 use Rattle.mt_body.specs.Stored.{bytes_of}
+use Rattle.mt_opening.specs.Current.{EngineState}
 use Rattle.mt_engine.specs.Accepting.{HasRoomFor}
 use Rattle.mt_engine.specs.Archiving.{texts_size}
-use Rattle.mt_engine.specs.Current.{EngineState}
 use Rattle.mt_model.specs.CommandStep.{allowed, replay}
 use Rattle.mt_model.specs.Honest.{Bytes}
 use Rattle.mt_records.specs.Laws.{IsOfRange, IsOver}

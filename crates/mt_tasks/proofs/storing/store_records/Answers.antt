@@ -1,6 +1,6 @@
 use Rattle.std.proofs.Common.{◌≡◌, ℕ, false, List, [], ◌∷◌, ◌++◌, Option, refl, sym, ap, ◌∙◌, subst, arith}
+use Rattle.mt_opening.specs.Current.{EngineState}
 use Rattle.mt_engine.proofs.Accepts.{idle_leaves}
-use Rattle.mt_engine.specs.Current.{EngineState}
 use Rattle.mt_types.specs.declared.body.Body.{Body}
 use Rattle.mt_types.specs.declared.task.Raw.{Raw}
 use Rattle.mt_types.specs.declared.task.TaskRecord.{TaskRecord}

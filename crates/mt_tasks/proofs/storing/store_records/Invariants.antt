@@ -2,8 +2,8 @@
 use Rattle.std.proofs.Common.{◌≡◌, ℕ, List}
 use Rattle.mt_base.specs.Counts.{NeverFell}
 use Rattle.mt_disk.specs.CrashModel.{LeavesOnly}
-use Rattle.mt_engine.specs.Current.{IsWriting}
-use Rattle.mt_engine.specs.History.{Bytes, HasHistory, History}
+use Rattle.mt_opening.specs.Current.{IsWriting}
+use Rattle.mt_opening.specs.History.{Bytes, HasHistory, History}
 use Rattle.mt_engine.specs.Ready.{EngineStays, RunGoesOn}
 use Rattle.mt_model.specs.State.{State}
 use Rattle.mt_spawn.specs.Children.{SameLive}

@@ -2,8 +2,8 @@ use Rattle.std.proofs.Common.{◌≡◌, length, refl, sym, subst, ap, ◌∙◌
 use Rattle.mt_body.specs.Stored.{bytes_of}
 use Rattle.mt_model.specs.CommandStep.{allowed}
 use Rattle.mt_types.specs.Values.{command_with}
+use Rattle.mt_opening.specs.Current.{EngineState}
 use Rattle.mt_engine.specs.Accepting.{Accepts}
-use Rattle.mt_engine.specs.Current.{EngineState}
 use Rattle.mt_engine.specs.declared.engine.Accepted.{Accepted}
 use Rattle.mt_engine.proofs.Accepts.{idle_leaves, none_added, none_refused}
 use Rattle.mt_account.proofs.Commands.{size_of}

@@ -5,8 +5,8 @@ use Rattle.mt_log.specs.LogState.{LogState, told, with_payloads}
 use Rattle.mt_log.specs.RunState.{HasTaken}
 use Rattle.mt_body.specs.Stored.{bytes_of}
 use Rattle.mt_types.specs.Values.{command_with}
+use Rattle.mt_opening.specs.Current.{EngineState}
 use Rattle.mt_engine.specs.Accepting.{Accepts}
-use Rattle.mt_engine.specs.Current.{EngineState}
 use Rattle.mt_engine.specs.declared.engine.Accepted.{Accepted}
 use Rattle.mt_engine.specs.declared.engine.Accepted.TheVariants as accepted
 use Rattle.mt_engine.proofs.Accepts.{idle_leaves, none_added, one_added}

@@ -1,7 +1,7 @@
 use Rattle.std.proofs.Common.{[], sym, subst, ap, ◌∙◌, arith}
 use Rattle.mt_log.specs.LogState.{Stands}
 use Rattle.mt_log.specs.RunState.{HasTaken, RunState, Running}
-use Rattle.mt_engine.specs.Current.{EngineState}
+use Rattle.mt_opening.specs.Current.{EngineState}
 use Rattle.mt_engine.proofs.Stores.{begun}
 use Rattle.mt_engine.proofs.engine.Engine.begin_run.Goals as goal
 

@@ -1,7 +1,7 @@
 use Rattle.std.proofs.Common.{◌≡◌, false, sym, subst, ap, ◌∙◌, arith}
 use Rattle.std.proofs.lemmas.Grind.{common_steps}
 use Rattle.mt_log.specs.RunState.{Running}
-use Rattle.mt_engine.specs.Current.{EngineState}
+use Rattle.mt_opening.specs.Current.{EngineState}
 use Rattle.mt_engine.proofs.Ends.{goes_on_leaves}
 use Rattle.mt_engine.proofs.engine.Engine.drop_run.Goals as goal
 

@@ -4,7 +4,7 @@ use Rattle.mt_disk.specs.CrashModel.{LeavesOnly}
 use Rattle.mt_log.specs.LogImage.{IsBeforeOrAfter}
 use Rattle.mt_log.specs.LogState.{LogState}
 use Rattle.mt_log.specs.RunState.{HasTaken, Running}
-use Rattle.mt_engine.specs.Current.{EngineState}
+use Rattle.mt_opening.specs.Current.{EngineState}
 use Rattle.mt_engine.proofs.Ends.{end_leaves, ended_current}
 use Rattle.mt_engine.proofs.Runs.{ended_same, ends_so, where_open}
 use Rattle.mt_engine.proofs.engine.Engine.end_run.Goals as goal

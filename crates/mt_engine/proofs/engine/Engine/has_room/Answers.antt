@@ -1,5 +1,5 @@
 use Rattle.std.proofs.Common.{◌≡◌, length, sym, ap, ◌∙◌, arith}
-use Rattle.mt_engine.specs.Current.{EngineState}
+use Rattle.mt_opening.specs.Current.{EngineState}
 use Rattle.mt_engine.proofs.Accepts.{size_is}
 use Rattle.mt_engine.proofs.engine.Engine.has_room.Goals as goal
 

@@ -3,9 +3,9 @@ use Rattle.std.proofs.lemmas.Result.{on_ok_weaker}
 use Rattle.mt_log.specs.LogImage.{payloads_of}
 use Rattle.mt_log.specs.LogState.{IsThere}
 use Rattle.mt_body.specs.Stored.{bytes_of}
-use Rattle.mt_engine.specs.Current.{EngineState}
-use Rattle.mt_engine.proofs.Held.{told_now}
-use Rattle.mt_engine.proofs.Looks.{where_failed}
+use Rattle.mt_opening.specs.Current.{EngineState}
+use Rattle.mt_opening.proofs.Held.{told_now}
+use Rattle.mt_opening.proofs.Looks.{where_failed}
 use Rattle.mt_engine.proofs.Objects.{stands_for}
 use Rattle.mt_engine.proofs.engine.Engine.read_body.Goals as goal
 

@@ -3,9 +3,9 @@ use Rattle.mt_log.specs.LogImage.{payloads_of}
 use Rattle.mt_log.specs.LogState.{IsThere}
 use Rattle.mt_body.specs.Sending.{Sends}
 use Rattle.mt_body.specs.Stored.{bytes_of}
-use Rattle.mt_engine.specs.Current.{EngineState}
-use Rattle.mt_engine.specs.History.{Bytes}
-use Rattle.mt_engine.proofs.Held.{told_now}
+use Rattle.mt_opening.specs.Current.{EngineState}
+use Rattle.mt_opening.specs.History.{Bytes}
+use Rattle.mt_opening.proofs.Held.{told_now}
 use Rattle.mt_engine.proofs.Objects.{stands_for}
 use Rattle.mt_engine.proofs.engine.Engine.send_body.Goals as goal
 

@@ -2,7 +2,7 @@ use Rattle.std.proofs.Common.{◌≡◌, ◌≤◌, true≢false, false, sym, su
 use Rattle.mt_log.specs.LogState.{LogState}
 use Rattle.mt_log.specs.RunState.{Running}
 use Rattle.mt_body.specs.Storing.{Stores}
-use Rattle.mt_engine.specs.Current.{EngineState}
+use Rattle.mt_opening.specs.Current.{EngineState}
 use Rattle.mt_engine.proofs.Ends.{goes_on_leaves}
 use Rattle.mt_engine.proofs.Runs.{same_tells}
 use Rattle.mt_engine.proofs.Stores.{closed_by, same_where_open, stays_open, stores_body}

@@ -10,8 +10,8 @@ use Rattle.mt_model.specs.JobSteps.{done_at}
 use Rattle.mt_model.specs.State.{job_at}
 use Rattle.mt_types.specs.declared.body.Body.{Body}
 use Rattle.mt_types.specs.declared.job.Job.{Job}
+use Rattle.mt_opening.specs.Current.{EngineState, IsWriting}
 use Rattle.mt_engine.specs.Archiving.{TextGoes}
-use Rattle.mt_engine.specs.Current.{EngineState, IsWriting}
 use Rattle.mt_engine.proofs.Accepts.{idle_leaves}
 use Rattle.mt_engine.proofs.Archives.{never_same, places_text, stores_text}
 use Rattle.mt_engine.proofs.Ends.{goes_on_leaves}

@@ -1,7 +1,7 @@
 -- Turns went on, one after another.
 use Rattle.std.proofs.Common.{◌∙◌, [], refl, sym, arith}
 use Rattle.std.specs.Prelude.{is_some}
-use Rattle.mt_engine.specs.Current.{told_size}
+use Rattle.mt_opening.specs.Current.{told_size}
 use Rattle.mt_runner.specs.Account.{account_side, tasks_of, told_time}
 use Rattle.mt_runner.proofs.Crashes.{all_of, unmoved}
 use Rattle.mt_runner.proofs.Drains.{Took, at_setting, goes_on_more, led_none, open_more, so_ends, so_more}

@@ -9,7 +9,7 @@ pub loop-phase-preserved : goal.loop-phase-preserved
 loop-phase-preserved c = record {
   queues =
       c.in_ok-push.ensures.items
-      ∙ ap (λ q. c.loop-phase.queues.items ++ q ∷ []) (c.in_ok-queue.ensures ∙ ap (λ n. first_phase (n, c.phase-item.result.kind)) c.loop-phase.invariant.number)
+      ∙ ap (λ q. c.loop-phase.queues.items ++ q ∷ []) (c.new.ensures ∙ ap (λ n. first_phase (n, c.phase-item.result.kind)) c.loop-phase.invariant.number)
       ∙ ap (λ l. l ++ first_phase (c.loop-phase.phase-index, c.phase-item.result.kind) ∷ []) c.loop-phase.invariant.queues
       ∙ first_phases_on c.args.phases.now c.loop-phase.phase-index c.phase-item.result (omega arith) c.phase-item.is;
   number = c.in-Some.ensures.1 ∙ ap (λ n. n + 1) c.loop-phase.invariant.number;

@@ -13,14 +13,14 @@ use Rattle.mt_sched.proofs.sched.Sched.feed.Goals.{in-Some, in_default}
 
 pub returns-clause-ok : goal.returns-clause-ok
 returns-clause-ok c =
-    let change = λ (plan : Plan). grown plan c.args.phase 1 in
+    let change = λ (plan : Plan). grown plan c.args.phase c.args.count in
     elim c.match-get_mut.branch [
       | in-Some w ↦ on_ok_weaker c.match-get_mut.fed
           (λ new. ap (λ s. s.queues.entries) w.self-inside-is
           ∙ (c.get_mut.follows.holds w.feed-fed.new.self).0
           ∙ with_plan_is c.args.job change c.self.inside.queues.entries w.in-Some.queue.now w.feed-fed.new.self c.self.invariant.rising (sym w.in-Some.ensures.value) new
           ∙ ap (λ l. with_plan l c.args.job change) c.self.view_is)
-          (subst (λ r. OnOk r (w.feed-fed.new.self ≡ grown w.in-Some.queue.now c.args.phase 1)) (sym w.fed-is) w.feed-fed.ensures.ok)
+          (subst (λ r. OnOk r (w.feed-fed.new.self ≡ grown w.in-Some.queue.now c.args.phase c.args.count)) (sym w.fed-is) w.feed-fed.ensures.ok)
       | in_default w ↦ on_ok_always c.match-get_mut.fed
           (ap (λ s. s.queues.entries) w.self-inside-is
           ∙ ap (λ m. m.entries) c.get_mut.follows.holds-at-none
@@ -40,3 +40,6 @@ returns-clause-err c =
       | in_default w ↦ on_err_always c.match-get_mut.fed
           (ap (λ s. s.queues.entries) w.self-inside-is ∙ ap (λ m. m.entries) c.get_mut.follows.holds-at-none ∙ c.self.view_is)
     ]
+
+pub returns-then-not-has_phase-clause-ok : goal.returns-then-not-has_phase-clause-ok
+returns-then-not-has_phase-clause-ok c = sym (c.has_phase.ensures c.if-not-has_phase.true c.args.count)

@@ -1,5 +1,0 @@
-use Rattle.mt_engine.proofs.Histories.{none_foreign}
-use Rattle.mt_engine.proofs.laws.foreign_has_no_history.Goals as goal
-
-pub returns : goal.returns
-returns c = none_foreign

@@ -1,0 +1,5 @@
+pub mod Current
+pub mod History
+pub mod Looking
+pub mod Opening
+pub mod Places
