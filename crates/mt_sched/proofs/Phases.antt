@@ -9,7 +9,7 @@ use Rattle.mt_types.specs.declared.document.PhaseKind.TheVariants.{Map, Reduce}
 use Rattle.mt_types.specs.declared.job.Task.{Task}
 use Rattle.mt_model.proofs.Maps.{length-map}
 use Rattle.mt_sched.specs.Plan.{AreNumbered, PhasePlan, Plan, first_but, has_ready_in, has_ready_phase, has_task, is_complete_phase, ready_in, ready_of_phase}
-use Rattle.mt_sched.specs.PlanSteps.{fed, fed_to, without_place}
+use Rattle.mt_sched.specs.PlanSteps.{fed, fed_to, is_complete_after, without_place}
 use Rattle.mt_sched.proofs.Filters.{differ}
 
 abbrev AreFrom : ℕ → List PhasePlan → Type 0
@@ -111,6 +111,21 @@ all_stopped qs i q less is complete so_far =
 
 pub all_done : (qs : List PhasePlan) (i : ℕ) → length qs ≤ i → list_all is_complete_phase (drop i qs) ≡ list_all is_complete_phase qs → true ≡ list_all is_complete_phase qs
 all_done qs i past so_far = sym (ap (list_all is_complete_phase) (drop_all qs i past)) ∙ so_far
+
+-- whether each phase is complete once a place is committed
+pub after_on : (phase place : ℕ) (qs : List PhasePlan) (i : ℕ) (q : PhasePlan) → i < length qs → q ≡ get_or qs i q → is_complete_after phase place q ≡ true
+    → list_all (is_complete_after phase place) (drop i qs) ≡ list_all (is_complete_after phase place) qs → list_all (is_complete_after phase place) (drop (i + 1) qs) ≡ list_all (is_complete_after phase place) qs
+after_on phase place qs i q less is complete so_far =
+    sym (ap (list_all (is_complete_after phase place)) (drop_step qs i q less is) ∙ ap (λ b. b && list_all (is_complete_after phase place) (drop (i + 1) qs)) complete) ∙ so_far
+
+pub after_stopped : (phase place : ℕ) (qs : List PhasePlan) (i : ℕ) (q : PhasePlan) → i < length qs → q ≡ get_or qs i q → is_complete_after phase place q ≡ false
+    → list_all (is_complete_after phase place) (drop i qs) ≡ list_all (is_complete_after phase place) qs → false ≡ list_all (is_complete_after phase place) qs
+after_stopped phase place qs i q less is complete so_far =
+    sym (ap (list_all (is_complete_after phase place)) (drop_step qs i q less is) ∙ ap (λ b. b && list_all (is_complete_after phase place) (drop (i + 1) qs)) complete) ∙ so_far
+
+pub after_done : (phase place : ℕ) (qs : List PhasePlan) (i : ℕ) → length qs ≤ i → list_all (is_complete_after phase place) (drop i qs) ≡ list_all (is_complete_after phase place) qs
+    → true ≡ list_all (is_complete_after phase place) qs
+after_done phase place qs i past so_far = sym (ap (list_all (is_complete_after phase place)) (drop_all qs i past)) ∙ so_far
 
 -- whether a task of a phase is ready
 pub any_on : (plan : Plan) (i : ℕ) (q : PhasePlan) → i < length plan.phases → q ≡ get_or plan.phases i q → has_ready_phase plan q ≡ false

@@ -1,9 +1,9 @@
 -- What changes of a job make of its plan.
-use Rattle.std.specs.Prelude.{ℕ, ◌+◌, ◌==◌, true, false, not, cond, List, ◌++◌, map}
+use Rattle.std.specs.Prelude.{ℕ, ◌+◌, ◌==◌, Bool, true, false, not, cond, List, ◌++◌, map}
 use Rattle.std.specs.List.{enumerate_from, filter, range_with_len}
 use Rattle.mt_types.specs.declared.document.PhaseKind.{PhaseKind}
 use Rattle.mt_types.specs.declared.document.PhaseKind.TheVariants.{Map, Reduce}
-use Rattle.mt_sched.specs.Plan.{PhasePlan, Plan}
+use Rattle.mt_sched.specs.Plan.{PhasePlan, Plan, is_complete_phase}
 
 -- the number of places before anything is fed
 abbrev pub first_places : PhaseKind → ℕ
@@ -42,6 +42,10 @@ grown plan phase n = at_phase phase (fed n) plan
 -- a task of a job is committed
 abbrev pub committed_in : Plan → ℕ → ℕ → Plan
 committed_in plan phase place = at_phase phase (without_place place) plan
+
+-- whether a phase is complete once a place of the phase of this number is committed
+abbrev pub is_complete_after : ℕ → ℕ → PhasePlan → Bool
+is_complete_after phase place q = is_complete_phase (cond (q.phase == phase) (without_place place q) q)
 
 -- the input of a job ends
 abbrev pub ended_plan : Plan → Plan

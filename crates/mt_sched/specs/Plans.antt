@@ -1,5 +1,5 @@
 -- What the queues of jobs keep beside their plans.
-use Rattle.std.specs.Prelude.{◌≡◌, ℕ, ◌<◌, Bool, true, false, cond, ◌&&◌, List, [], All, Option, Some, None}
+use Rattle.std.specs.Prelude.{◌≡◌, ℕ, ◌<◌, Bool, true, false, cond, ◌&&◌, ◌||◌, List, [], All, Option, Some, None}
 use Rattle.std.specs.List.{list_any}
 use Rattle.std.specs.List.Sorted.{IsStrictlySortedBy}
 use Rattle.std.specs.BTreeMap.{is_at}
@@ -34,9 +34,9 @@ has_number numbers job = list_any (is_at (nat_cmp job)) numbers
 abbrev pub HasSame : List ℕ → List ℕ → Type 0
 HasSame old new = (k : ℕ) → has_number new k ≡ has_number old k
 
--- the second has the numbers of the first, and this one
-abbrev pub HasAlso : ℕ → List ℕ → List ℕ → Type 0
-HasAlso job old new = (k : ℕ) → has_number new k ≡ cond (is_at (nat_cmp job) k) true (has_number old k)
+-- the second has the numbers of the first, and this one where it may belong there
+abbrev pub HasAlso : Bool → ℕ → List ℕ → List ℕ → Type 0
+HasAlso may job old new = (k : ℕ) → has_number new k ≡ cond (is_at (nat_cmp job) k) (may || has_number old k) (has_number old k)
 
 -- the second has the numbers of the first, but this one only where it belongs there
 abbrev pub HasWhere : Bool → ℕ → List ℕ → List ℕ → Type 0

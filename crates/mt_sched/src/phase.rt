@@ -10,6 +10,7 @@ use mt_types::{PhaseKind, Task};
 use std::alloc::{AllocError, Global};
 use std::collections::BTreeSet;
 use std::marker::Model;
+use std::slice;
 
 /// A phase of a job that runs: the number of its places, the place from which on none is committed, and those before it that aren't, as others
 /// passed them.
@@ -117,7 +118,7 @@ impl PhaseQueue {
     ghost use Rattle.std.specs.Prelude.{not};
     ghost use Rattle.std.specs.List.{find};
     ghost use Rattle.mt_sched.specs.Plan.{first_but, has_task, is_complete_phase, is_open_place, task_at};
-    ghost use Rattle.mt_sched.specs.PlanSteps.{fed, fed_to, first_phase, without_place};
+    ghost use Rattle.mt_sched.specs.PlanSteps.{fed, fed_to, first_phase, is_complete_after, without_place};
 
     /// A phase into which nothing is fed. It takes no memory yet.
     pub fn new(alloc: Global, phase: u32, kind: PhaseKind) -> PhaseQueue
@@ -190,6 +191,29 @@ impl PhaseQueue {
         ensures { result ≡ first_but skip.now (map (task_at job self.now.phase) self.now.todo) }
     {
         task_of(job, self.phase, self.first_open(job, skip))
+    }
+
+    // Whether each place but this one is committed.
+    fn is_complete_but(&self, place: u64) -> bool
+        ensures { result ≡ is_complete_phase (without_place place self.now) }
+    {
+        let task = Task {
+            job: 0,
+            phase: self.phase,
+            place,
+        };
+        self.first_open(0, slice::from_ref(&task)).is_none()
+    }
+
+    /// Whether each place is committed once this one of the phase of this number is. Takes no memory.
+    pub fn is_complete_after(&self, phase: u32, place: u64) -> bool
+        ensures { result ≡ is_complete_after phase place self.now }
+    {
+        if self.phase == phase {
+            self.is_complete_but(place)
+        } else {
+            self.is_complete()
+        }
     }
 
     // So many places more, at the end.

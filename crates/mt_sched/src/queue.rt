@@ -2,6 +2,7 @@
 ghost use Rattle.std.specs.Prelude.{◌≡◌};
 ghost use Rattle.std.specs.List.{list_all};
 ghost use Rattle.mt_sched.specs.Plan.{is_complete_phase};
+ghost use Rattle.mt_sched.specs.PlanSteps.{is_complete_after};
 
 use crate::phase::PhaseQueue;
 use mt_types::{Phase, PhaseKind, Task};
@@ -32,6 +33,20 @@ fn are_complete(queues: &[PhaseQueue]) -> bool
 {
     for queue in queues {
         let complete = queue.is_complete();
+        if !complete {
+            return false;
+        }
+    }
+    true
+}
+
+// Whether each place of each of these phases is committed once this place of the phase of this number is.
+#[tactic(auto, using(crate::proofs::Phases::after_on, crate::proofs::Phases::after_stopped, crate::proofs::Phases::after_done))]
+fn are_complete_after(queues: &[PhaseQueue], phase: u32, place: u64) -> bool
+    ensures { result ≡ list_all (is_complete_after phase place) queues.now }
+{
+    for queue in queues {
+        let complete = queue.is_complete_after(phase, place);
         if !complete {
             return false;
         }
@@ -128,6 +143,13 @@ impl Queue {
         ensures { result ≡ waits_in self.now }
     {
         self.ended && self.is_complete()
+    }
+
+    /// Whether it waits to be finished once this task is committed. Takes no memory.
+    pub fn waits_after(&self, phase: u32, place: u64) -> bool
+        ensures { result ≡ waits_in (committed_in self.now phase place) }
+    {
+        self.ended && are_complete_after(&self.phases, phase, place)
     }
 
     // Whether nothing holds up a phase of this kind: a reducer waits for the end of the input and for all earlier phases.

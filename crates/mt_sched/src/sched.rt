@@ -1,5 +1,5 @@
 //! The queues of all jobs that run, by their numbers.
-ghost use Rattle.std.specs.Prelude.{◌≡◌, OnOk, OnErr};
+ghost use Rattle.std.specs.Prelude.{◌≡◌, true, OnOk, OnErr};
 ghost use Rattle.std.specs.List.{flat_map};
 ghost use Rattle.std.specs.List.Sorted.{IsStrictlySortedBy};
 ghost use Rattle.std.specs.Ordering.{nat_cmp};
@@ -32,21 +32,22 @@ impl Model for Sched {
     ghost invariant = { λ s. IsSched s.queues.entries s.active.keys s.finishing.keys };
 }
 
-// The number is in both sets, whether it belongs there or not: on want of memory they hold what they held.
+// The number is in the first set, and in the second where it may belong there: on want of memory they hold what they held.
 fn mark(
     active: &mut BTreeSet<u64>,
     finishing: &mut BTreeSet<u64>,
     job: u64,
+    waits: bool,
 ) -> Result<(), AllocError>
-    ensures active { OnOk result (HasAlso job active.old.keys active.new.keys) }
-    ensures finishing { OnOk result (HasAlso job finishing.old.keys finishing.new.keys) }
+    ensures active { OnOk result (HasAlso true job active.old.keys active.new.keys) }
+    ensures finishing { OnOk result (HasAlso waits job finishing.old.keys finishing.new.keys) }
     ensures active_stays { OnErr result (HasSame active.old.keys active.new.keys) }
     ensures finishing_stays { OnErr result (HasSame finishing.old.keys finishing.new.keys) }
     ensures active_rising { IsStrictlySortedBy nat_cmp active.old.keys → IsStrictlySortedBy nat_cmp active.new.keys }
     ensures finishing_rising { IsStrictlySortedBy nat_cmp finishing.old.keys → IsStrictlySortedBy nat_cmp finishing.new.keys }
 {
     let fresh = active.insert(job)?;
-    if finishing.insert(job).is_err() {
+    if waits && finishing.insert(job).is_err() {
         if fresh {
             active.remove(&job);
         }
@@ -91,8 +92,8 @@ fn first_of_jobs(queues: &BTreeMap<u64, Queue>, jobs: &BTreeSet<u64>, skip: &[Ta
 impl Sched {
     ghost use Rattle.std.specs.Prelude.{◌≡◌, [], ◌∷◌, ◌++◌, ℕ, false, OnOk, OnErr};
     ghost use Rattle.std.specs.Option.{option_map};
-    ghost use Rattle.mt_sched.specs.Plans.{IsAbove, plan_at};
-    ghost use Rattle.mt_sched.specs.Plan.{all_ready, first_but, first_waiting};
+    ghost use Rattle.mt_sched.specs.Plans.{IsAbove, passes, plan_at};
+    ghost use Rattle.mt_sched.specs.Plan.{all_ready, first_but, first_waiting, waits_in};
     ghost use Rattle.mt_sched.specs.PlanOfJob.{kinds_of};
     ghost use Rattle.mt_sched.specs.PlanSteps.{committed_in, ended_plan, first_plan, grown, with_plan, without_plan};
 
@@ -136,7 +137,7 @@ impl Sched {
         if !self.has_phase(job, phase) {
             return Ok(());
         }
-        mark(&mut self.active, &mut self.finishing, job)?;
+        mark(&mut self.active, &mut self.finishing, job, true)?;
         let mut fed = Ok(());
         let mut ready = false;
         let mut waits = false;
@@ -150,12 +151,23 @@ impl Sched {
         fed
     }
 
+    // Whether its job waits to be finished once this task is committed.
+    fn waits_after(&self, task: &Task) -> bool
+        ensures { result ≡ passes (λ plan. waits_in (committed_in plan task.now.phase task.now.place)) (plan_at self.now task.now.job) }
+    {
+        match self.queues.get(&task.job) {
+            Some(queue) => queue.waits_after(task.phase, task.place),
+            None => false,
+        }
+    }
+
     /// A task of a job is committed. On want of memory nothing has changed.
     pub fn commit(&mut self, task: &Task) -> Result<(), AllocError>
         ensures ok { OnOk result (self.new ≡ with_plan self.old task.now.job (λ plan. committed_in plan task.now.phase task.now.place)) }
         ensures err { OnErr result (self.new ≡ self.old) }
     {
-        mark(&mut self.active, &mut self.finishing, task.job)?;
+        let last = self.waits_after(task);
+        mark(&mut self.active, &mut self.finishing, task.job, last)?;
         let mut committed = Ok(());
         let mut ready = false;
         let mut waits = false;
@@ -174,7 +186,7 @@ impl Sched {
         ensures ok { OnOk result (self.new ≡ with_plan self.old job ended_plan) }
         ensures err { OnErr result (self.new ≡ self.old) }
     {
-        mark(&mut self.active, &mut self.finishing, job)?;
+        mark(&mut self.active, &mut self.finishing, job, true)?;
         let mut ready = false;
         let mut waits = false;
         if let Some(queue) = self.queues.get_mut(&job) {
