@@ -9,7 +9,7 @@ use mt_runner::Turn;
 /// How the serving of links ended.
 #[derive(Clone, Copy, Debug, PartialEq, Eq)]
 pub enum ServeEnd {
-    /// 0: as many links as were asked for were taken, each was served until it was over, and no task is left.
+    /// 0: as many links as were asked for were taken, each was served until it was over, no task is ready, and each job whose input has ended is done.
     Served,
     /// 6: the same, but tasks are left, since their spawner failed, and counted it.
     TasksFailed,

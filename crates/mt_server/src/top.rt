@@ -35,7 +35,7 @@ use std::alloc::Global;
 ///
 /// | Status | Cause |
 /// |---|---|
-/// | 0 | a session: the source was read to its end, or to a message that closes; a serve: all links were served, and are over. No task is left |
+/// | 0 | a session: the source was read to its end, or to a message that closes; a serve: all links were served, and are over. No task is ready, and each job whose input has ended is done |
 /// | 1 | the words are not of the grammar |
 /// | 2 | the log cannot be read |
 /// | 3, 4 | a session: the source, the sink failed, and counted it |
