@@ -2,7 +2,7 @@
 //!
 //! - `words`: what the words behind the command ask for.
 //! - `top`: `drill`, the call that the program makes, with all that is promised of it; `end`: how it ended, and its number.
-//! - `look`: what a drill finds; `refusal`: what it says of a log that it doesn't take.
+//! - `look`: what a drill finds.
 //! - `session`: a session of `mt_server` over a drill's messages; `replies`: how many replies it gave.
 //! - `line`: the line that says what the account has then; `figures`: its parts; `text`: words and numbers.
 //!
@@ -13,7 +13,6 @@ mod end;
 mod figures;
 mod line;
 mod look;
-mod refusal;
 mod replies;
 mod session;
 mod text;

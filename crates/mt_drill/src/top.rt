@@ -19,11 +19,11 @@ ghost use Rattle.mt_drill.specs.Logs.{HasNone, HasRecord};
 use crate::end::{DrillEnd, Stopped};
 use crate::line::line_of;
 use crate::look::{Found, look};
-use crate::refusal::{line_for, say};
 use crate::session::serve_drill;
 use mt_disk::Disk;
 use mt_edge::{Clock, Sink, write_all};
 use mt_opening::Unreadable;
+use mt_server::{say, unreadable_line};
 use std::alloc::Global;
 
 // Makes the account of a drill on an empty log and runs its job: the line of it.
@@ -55,7 +55,7 @@ fn say_unreadable<K: Sink>(alloc: Global, sink: &mut K, why: &Unreadable) -> Dri
     ensures silent { result ≡ DrillEnd.Memory → sink.new ≡ sink.old }
     ensures stays { K.sink_stays sink.old sink.new }
 {
-    match line_for(alloc, why) {
+    match unreadable_line(alloc, why) {
         Ok(line) => {
             say(sink, line.as_slice());
             DrillEnd::Unreadable

@@ -22,5 +22,6 @@ mod session;
 mod status;
 mod top;
 
+pub use line::{say, unreadable_line};
 pub use status::{ServeEnd, Status};
 pub use top::mantad;

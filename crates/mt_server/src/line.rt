@@ -8,8 +8,8 @@ use mt_edge::{Sink, write_all};
 use mt_opening::Unreadable;
 use std::alloc::{AllocError, Global};
 
-// Writes a line, or a front of it before a counted fault, which is ignored.
-pub(crate) fn say<K: Sink>(sink: &mut K, line: &[u8])
+/// Writes a line, or a front of it before a counted fault, which is ignored.
+pub fn say<K: Sink>(sink: &mut K, line: &[u8])
     ensures said { SaysLine line.now (K.got sink.old) (K.got sink.new) (K.write_faults sink.old) (K.write_faults sink.new) }
     ensures stays { K.sink_stays sink.old sink.new }
 {
@@ -109,8 +109,8 @@ fn put_line(out: &mut Vec<u8>, why: &Unreadable) -> Result<(), AllocError>
     }
 }
 
-// The line that says why a store can't be opened.
-pub(crate) fn line_for(alloc: Global, why: &Unreadable) -> Result<Vec<u8>, AllocError>
+/// The line that says why a store can't be opened. It fails for want of memory alone.
+pub fn unreadable_line(alloc: Global, why: &Unreadable) -> Result<Vec<u8>, AllocError>
     ensures { IfOk result (λ line. line.items ≡ line_of why.now) }
 {
     let mut out = Vec::new(alloc);

@@ -12,7 +12,7 @@ ghost use Rattle.mt_opening.specs.Opening.{IsReadable, IsRefused, KeepsLogs};
 ghost use Rattle.mt_opening.specs.declared.opening.Unreadable.{Unreadable};
 ghost use Rattle.mt_server.specs.Statuses.{IsSilent, IsUnopened, NotOpened, Tells};
 
-use crate::line::{line_for, say};
+use crate::line::{say, unreadable_line};
 use crate::status::Status;
 use mt_disk::Disk;
 use mt_edge::Sink;
@@ -27,7 +27,7 @@ fn not_opened<K: Sink>(alloc: Global, sink: &mut K, end: OpenEnd) -> Status
     ensures stays { K.sink_stays sink.old sink.new }
 {
     match end {
-        OpenEnd::Unreadable(why) => match line_for(alloc, &why) {
+        OpenEnd::Unreadable(why) => match unreadable_line(alloc, &why) {
             Ok(text) => {
                 say(sink, text.as_slice());
                 Status::UnreadableLog(why)
