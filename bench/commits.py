@@ -1,6 +1,6 @@
 #!/usr/bin/env python3
-"""Writes a store byte for byte as the program does: of puts of objects of 5 bytes, or of one job of one map phase whose tasks are committed,
-without an output or with one of 5 bytes each. usage: commits.py FOLDER puts|plain|outputs COUNT"""
+"""Writes a store byte for byte as the program does: of puts of objects of 5 bytes, or of one job of one map phase with so many inputs, whose tasks
+are committed, without an output or with one of 5 bytes each, or aren't. usage: commits.py FOLDER puts|inputs|plain|outputs COUNT"""
 import hashlib
 import os
 import struct
@@ -50,6 +50,8 @@ def write(log, kind, count):
     for k in range(0, count, LINES):
         lines = min(LINES, count - k)
         log.record(b"\6" + MOMENT + struct.pack(">QI", job, lines) + line * lines)
+    if kind == "inputs":
+        return
     for place in range(count):
         log.commit(job, place, kind == "outputs")
 
