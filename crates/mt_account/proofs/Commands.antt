@@ -5,6 +5,7 @@ use Rattle.std.proofs.lemmas.Option.{none-some}
 use Rattle.std.specs.Prelude.{All}
 use Rattle.mt_path.specs.AccountPath.{AccountPath}
 use Rattle.mt_codec.specs.Spelling.{HasSpelling}
+use Rattle.mt_codec.proofs.Weaker.{within_limits}
 use Rattle.mt_codec.proofs.WellMade.{well_made}
 use Rattle.mt_model.specs.CommandStep.{allowed, change, step}
 use Rattle.mt_model.specs.Keeping.{KeepsLimits}
@@ -27,6 +28,8 @@ use Rattle.mt_types.specs.declared.limits.TheConstants.{MOST_COMMANDS}
 use Rattle.mt_types.specs.declared.object.Field.{Field}
 use Rattle.mt_types.specs.declared.refusal.Refusal.{Refusal}
 use Rattle.mt_jobs.specs.Shown.{state_of}
+use Rattle.mt_snapshot.specs.Listing.{IsListable}
+use Rattle.mt_snapshot.proofs.Keeps.{first_listable, step_listable}
 use Rattle.mt_account.specs.Kept.{Keeps, lost_account}
 use Rattle.mt_account.proofs.Within.{says_within}
 
@@ -115,7 +118,13 @@ steps count rows rows' jobs jobs' c is = ap (λ (s : State Body). record s { cou
 pub keeps_first : (rows : Rows Body) (jobs : List (Job Body)) (spare : Rows Body) → rows ≡ first_rows → jobs ≡ [] → spare ≡ first_rows → Keeps 0 rows jobs spare
 keeps_first rows jobs spare empty none same =
     let is : state_of 0 rows jobs ≡ first_state = cc in
-    record { most = omega arith; lawful = subst Lawful (sym is) (Lawful-first_state Body); limits = subst KeepsLimits (sym is) first_within; in_reserve = λ few. same }
+    record {
+      most = omega arith;
+      lawful = subst Lawful (sym is) (Lawful-first_state Body);
+      limits = subst KeepsLimits (sym is) first_within;
+      listable = subst IsListable (sym is) first_listable;
+      in_reserve = λ few. same;
+    }
 
 -- no command in many is as lawful as in none
 lawful_lost : Lawful lost_account
@@ -127,6 +136,17 @@ lawful_lost =
       uploads = record { rising = law.uploads.rising; each = All-nil (LawfulUpload MOST_COMMANDS) };
     }
 
+listable_lost : IsListable lost_account
+listable_lost =
+    let first : IsListable (first_state {B = Body}) = first_listable in
+    record {
+      count = omega arith;
+      placed = record { rows = first.placed.rows; jobs = first.placed.jobs; uploads = first.placed.uploads };
+      roots = first.roots;
+      light = first.light;
+      ended = first.ended;
+    }
+
 pub keeps_lost : (count : ℕ) (rows : Rows Body) (jobs : List (Job Body)) (spare : Rows Body) → count ≡ MOST_COMMANDS → rows ≡ first_rows → jobs ≡ [] → Keeps count rows jobs spare
 keeps_lost count rows jobs spare many empty none =
     let is : state_of count rows jobs ≡ lost_account = cc in
@@ -135,6 +155,7 @@ keeps_lost count rows jobs spare many empty none =
       most = omega (arith, many);
       lawful = subst Lawful (sym is) lawful_lost;
       limits = subst KeepsLimits (sym is) (record { rows = limits.rows; jobs = limits.jobs; uploads = limits.uploads });
+      listable = subst IsListable (sym is) listable_lost;
       in_reserve = λ few. absurd (omega (arith, few, many));
     }
 
@@ -144,5 +165,6 @@ keeps_step count rows rows' jobs jobs' spare c fits few free keeps is = record {
   most = omega (arith, few);
   lawful = subst Lawful (sym is) (lawful_step size_of (state_of count rows jobs) c keeps.lawful few (well_made c fits) free);
   limits = subst KeepsLimits (sym is) (keeps_limits (state_of count rows jobs) c keeps.limits (says_within c fits));
+  listable = subst IsListable (sym is) (step_listable (state_of count rows jobs) c keeps.lawful keeps.listable few (within_limits c fits) free);
   in_reserve = λ fewer. keeps.in_reserve few;
 }

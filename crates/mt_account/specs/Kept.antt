@@ -9,12 +9,15 @@ use Rattle.mt_model.specs.Lawful.{Lawful}
 use Rattle.mt_model.specs.Rows.{Rows, first_rows}
 use Rattle.mt_model.specs.State.{State}
 use Rattle.mt_jobs.specs.Shown.{state_of}
+use Rattle.mt_snapshot.specs.Listing.{IsListable}
 
--- the state is lawful and within its limits; and as long as it takes commands, the spare rows are those of an empty account
+-- the state is lawful and within its limits, and can be listed record by record; and as long as it takes commands, the spare rows are those of an
+-- empty account
 pub record Keeps (count : ℕ) (rows : Rows Body) (jobs : List (Job Body)) (spare : Rows Body) : Type 0 where
   pub most : count ≤ MOST_COMMANDS
   pub lawful : Lawful (state_of count rows jobs)
   pub limits : KeepsLimits (state_of count rows jobs)
+  pub listable : IsListable (state_of count rows jobs)
   pub in_reserve : count < MOST_COMMANDS → spare ≡ first_rows
 
 -- what is left where memory was wanting amid a change: nothing, and no room for a command

@@ -7,6 +7,7 @@ ghost use Rattle.mt_model.specs.Lawful.{Lawful};
 ghost use Rattle.mt_model.specs.Rows.{first_rows};
 ghost use Rattle.mt_model.specs.State.{first_state};
 ghost use Rattle.mt_jobs.specs.Shown.{state_of};
+ghost use Rattle.mt_snapshot.specs.Listing.{IsListable};
 ghost use Rattle.mt_tree.specs.Answer.{answer};
 ghost use Rattle.mt_types.specs.Kinds.{OnRows, kind_of};
 ghost use Rattle.mt_types.specs.declared.limits.TheConstants.{MOST_COMMANDS};
@@ -22,8 +23,8 @@ use std::alloc::{AllocError, Global};
 use std::marker::Model;
 use std::mem;
 
-/// The state of an account. Contracts see it as a state whose bodies are references into the log, without uploads. It is lawful, and
-/// keeps its limits.
+/// The state of an account. Contracts see it as a state whose bodies are references into the log, without uploads. It is lawful,
+/// keeps its limits, and can be listed record by record.
 #[derive(Drop)]
 pub struct Account {
     count: u64,
@@ -107,11 +108,12 @@ impl Account {
         })
     }
 
-    /// What stands at its paths: a lawful tree within its limits.
+    /// What stands at its paths: a lawful tree within its limits, of a state that can be listed.
     pub fn tree(&self) -> &Tree<Body>
         ensures rows { result.now ≡ self.now.rows }
         ensures lawful { Lawful self.now }
         ensures limits { KeepsLimits self.now }
+        ensures listable { IsListable self.now }
     {
         &self.tree
     }

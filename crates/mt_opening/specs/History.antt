@@ -1,9 +1,9 @@
 -- The history that a list of payloads stands for: commands with their bytes, behind a base.
-use Rattle.std.specs.Prelude.{◌≡◌, ◌⊎◌, ℕ, ◌<◌, true, List, [], ◌∷◌, ◌++◌, length, None, Ok}
+use Rattle.std.specs.Prelude.{◌≡◌, ◌⊎◌, ℕ, ◌<◌, Bool, true, false, List, [], ◌∷◌, ◌++◌, length, None, Ok}
 use Rattle.mt_codec.specs.Pieces.{is_piece}
 use Rattle.mt_codec.specs.Spelling.{Spells}
 use Rattle.mt_disk.specs.Files.{Files}
-use Rattle.mt_log.specs.LogImage.{Fit, payloads}
+use Rattle.mt_log.specs.LogImage.{Fit, payloads_by}
 use Rattle.mt_log.specs.Places.{end_of}
 use Rattle.mt_body.specs.Stored.{bytes_of, is_stored}
 use Rattle.mt_model.specs.Bodies.{OfCommand}
@@ -55,12 +55,16 @@ pub record IsHistoryOf (ps : List (List ℕ)) (base : State Bytes) (h : History)
   pub begins : Begins front base
   pub leads : Leads base front [] rest h
 
--- the files' log stands for a base and this history, and can be opened
-pub record HasHistory (base : State Bytes) (h : History) (files : Files) : Type 0 where
+-- the files' log stands for a base and this history, and can be opened: by an opening that takes the old version too, or doesn't
+pub record HasHistoryBy (any : Bool) (base : State Bytes) (h : History) (files : Files) : Type 0 where
   pub ps : List (List ℕ)
-  pub read : payloads files ≡ Ok ps
+  pub read : payloads_by any files ≡ Ok ps
   pub fit : Fit files
   pub is : IsHistoryOf ps base h
+
+-- by one that doesn't
+abbrev pub HasHistory : State Bytes → History → Files → Type 0
+HasHistory base h files = HasHistoryBy false base h files
 
 -- the first payload that is neither a piece nor a command that may stand there is at this place
 pub record IsForeignAt (ps : List (List ℕ)) (at : ℕ) : Type 0 where
