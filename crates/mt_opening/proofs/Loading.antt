@@ -1,6 +1,5 @@
 -- Payloads of a log, read one behind the other.
-use Rattle.std.proofs.Common.{◌≡◌, ◌≢◌, inl, inr, ◌<◌, ◌≤◌, ℕ, ◌+◌, Bool, true, false, true≢false, ◌&&◌, List, [], ◌∷◌, ◌++◌, length, Option, Some, None, Ok, Err, refl, sym, ◌∙◌, ap, arith, subst, append_assoc, append-nil}
-use Rattle.std.proofs.lemmas.Option.{none-some}
+use Rattle.std.proofs.Common.{◌≡◌, ◌≢◌, inl, inr, ◌<◌, ◌≤◌, ℕ, ◌+◌, Bool, true, false, true≢false, ◌&&◌, List, [], ◌∷◌, ◌++◌, length, None, refl, sym, ◌∙◌, ap, arith, subst, append_assoc, append-nil}
 use Rattle.mt_codec.specs.Pieces.{is_piece}
 use Rattle.mt_codec.specs.Spelling.{HasSpelling, Spells, spelling, undigested}
 use Rattle.mt_log.specs.LogImage.{Holds}
@@ -12,13 +11,11 @@ use Rattle.mt_body.proofs.Keeping.{still_stored}
 use Rattle.mt_model.specs.Bodies.{OfCommand, OfState, state_with}
 use Rattle.mt_model.specs.CommandStep.{allowed, replay, step}
 use Rattle.mt_model.specs.State.{State, first_state}
-use Rattle.mt_tree.specs.Answer.{answer}
 use Rattle.mt_types.specs.Kinds.{kind_of}
 use Rattle.mt_types.specs.Values.{command_with}
 use Rattle.mt_types.specs.declared.body.Body.{Body}
 use Rattle.mt_types.specs.declared.command.Command.{Command}
 use Rattle.mt_types.specs.declared.limits.TheConstants.{MOST_COMMANDS}
-use Rattle.mt_types.specs.declared.refusal.Refusal.{Refusal}
 use Rattle.mt_opening.specs.History.{Adds, Bytes, History, IsForeignAt, IsHistoryOf, Tells}
 use Rattle.mt_opening.specs.Opening.{IsLoaded, IsLoading, MayStand}
 use Rattle.mt_opening.specs.Places.{ArePlaces}
@@ -170,12 +167,3 @@ module _ (ps : List (List ℕ)) (place : ℕ) (s : State Body) (earlier : List S
         by (p ∷ more) is =
             let e : end_of ps ≡ end_from (end_of l.before) (p ∷ more) = ap end_of (l.all ∙ ap (λ (x : List (List ℕ)). l.before ++ x) is) ∙ end_from-append 8 l.before (p ∷ more) in
             absurd (omega (arith, le, e, l.place_is, end_of-holds old bytes gate ps log, end_from-rises (next_place (end_of l.before) (length p)) more))
-
--- what an answer says of the refusal
-pub none_answered : (r : Option Refusal) → Ok tt ≡ answer r → r ≡ None
-none_answered None is = refl
-none_answered (Some x) is = cc
-
-pub some_answered : (r : Option Refusal) (x : Refusal) → Err x ≡ answer r → r ≢ None
-some_answered None x is = cc
-some_answered (Some y) x is = λ e. none-some y (sym e)

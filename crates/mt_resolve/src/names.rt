@@ -57,7 +57,7 @@ pub fn job_stor(alloc: Global, job: u64) -> Result<Path, AllocError>
     in_job_folder(alloc, job, "stor")
 }
 
-// The key of the path of an output without a place, spelled at once in as much memory as it takes.
+// The key of the path of an output without a place, spelled at once, with room for all of it from the start.
 fn output_key(
     alloc: Global,
     job: u64,

@@ -5,11 +5,11 @@ use Rattle.mt_model.specs.CommandStep.{allowed}
 use Rattle.mt_opening.specs.Opening.{MayStand, NamesForeign}
 use Rattle.mt_opening.specs.declared.opening.OpenEnd.TheVariants as OpenEnd
 use Rattle.mt_opening.specs.declared.opening.Unreadable.TheVariants.{Foreign}
-use Rattle.mt_account.proofs.Commands.{size_of}
+use Rattle.mt_account.proofs.Commands.{none_answered, size_of, some_answered}
 use Rattle.mt_opening.proofs.Bodies.{fits_apart, free_apart, kind_apart}
 use Rattle.mt_account.specs.Taken.{IsTaken}
 use Rattle.mt_opening.proofs.Looks.{there_on}
-use Rattle.mt_opening.proofs.Loading.{loading_command, no_command, no_place, none_answered, some_answered, stands_on}
+use Rattle.mt_opening.proofs.Loading.{loading_command, no_command, no_place, stands_on}
 use Rattle.mt_opening.proofs.load.load_command.Goals as goal
 
 pub returns-in-Err-clause-foreign : goal.returns-in-Err-clause-foreign
