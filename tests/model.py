@@ -1,4 +1,4 @@
-"""A model of the store: what each request is answered, by docs/API.md and docs/MEANING.md, with Python's own libraries and
+"""A model of the store: what each request is answered, by docs/user/API.md and docs/proof/MEANING.md, with Python's own libraries and
 none of the store's code. `Store.ask` takes the bytes of one request, and gives the reply's bytes.
 """
 import base64
@@ -465,7 +465,7 @@ class Store:
         self.parent_refusal(path)
         refuse("DirectoryOperation", path in self.rows and not self.rows[path].is_object())
 
-    # Commands in the log: their sizes, by the table of docs/FORMATS.md.
+    # Commands in the log: their sizes, by the table of docs/proof/FORMATS.md.
     def path_bytes(self, path):
         return struct.pack(">BH", 0, len(path) - 1) + b"".join(struct.pack(">H", len(part)) + part for part in path[1:])
 

@@ -1,5 +1,5 @@
-"""Turns of the model's account: a job whose tasks are all committed is closed, else a ready task is run and committed, as docs/MEANING.md,
-docs/TASKS.md and docs/FORMATS.md have it. A command is a function of what it reads: `work(run, data)` gives what the task leaves.
+"""Turns of the model's account: a job whose tasks are all committed is closed, else a ready task is run and committed, as docs/proof/MEANING.md,
+docs/user/TASKS.md and docs/proof/FORMATS.md have it. A command is a function of what it reads: `work(run, data)` gives what the task leaves.
 """
 import collections
 import struct

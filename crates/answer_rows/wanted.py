@@ -1,5 +1,5 @@
 #!/usr/bin/env python3
-"""Prints the wanted table of answer_rows: `python3 wanted.py > stdout`, and stdin by docs/CONTRIBUTING.md.
+"""Prints the wanted table of answer_rows: `python3 wanted.py > stdout`, and stdin by docs/developer/CONTRIBUTING.md.
 
 The answers are those of tests/model.py, which follows the documents with Python's own libraries and knows nothing of the code.
 """

@@ -1,7 +1,7 @@
 #!/usr/bin/env python3
 """Prints the wanted table of body_rows: `python3 wanted.py | diff - stdout`.
 
-It follows docs/FORMATS.md and the README of mt_body with struct and hashlib, and knows nothing of their code.
+It follows docs/proof/FORMATS.md and the README of mt_body with struct and hashlib, and knows nothing of their code.
 """
 import hashlib
 import struct

@@ -1,7 +1,7 @@
 #!/usr/bin/env python3
 """Prints the wanted table of disk_rows: `python3 wanted.py | diff - stdout`.
 
-It follows docs/FORMATS.md and the READMEs of mt_disk and mt_log, and knows nothing of their code: a log is read by struct and
+It follows docs/proof/FORMATS.md and the READMEs of mt_disk and mt_log, and knows nothing of their code: a log is read by struct and
 hashlib, and a disk is a list of calls, of which a crash leaves what its picks say.
 """
 import hashlib
@@ -142,7 +142,7 @@ def records(data):
 
 
 class Log:
-    """A log on a disk, with the calls that docs/FORMATS.md lists."""
+    """A log on a disk, with the calls that docs/proof/FORMATS.md lists."""
 
     def __init__(self, disk, limit, takes_old=False):
         self.disk, self.limit, self.closed, self.is_old = disk, limit, False, False
@@ -442,7 +442,7 @@ def say(*lines):
 
 def disks(t):
     room = (16, 4, 16)
-    print("# The wanted answers are written by `python3 wanted.py`, which follows docs/FORMATS.md by struct and hashlib. `disk` makes")
+    print("# The wanted answers are written by `python3 wanted.py`, which follows docs/proof/FORMATS.md by struct and hashlib. `disk` makes")
     print("# a disk in memory of Head, One and Two; behind them are the numbers of its calls that fail. `\\e` is no byte.")
     say("A read gives what was written.")
     row("room 16 4 16")

@@ -1,7 +1,7 @@
 #!/usr/bin/env python3
 """Prints the wanted table of draft_rows: `python3 wanted.py | diff - stdout`.
 
-It follows docs/FORMATS.md and the READMEs of mt_disk, mt_log and mt_draft, and knows nothing of their code: a log is read and
+It follows docs/proof/FORMATS.md and the READMEs of mt_disk, mt_log and mt_draft, and knows nothing of their code: a log is read and
 written by struct and hashlib, and a disk is a list of calls, of which a crash leaves what its picks say.
 """
 import hashlib
@@ -347,7 +347,7 @@ def say(*lines):
 
 def drafts(t):
     log = log_of([b"one", b"two", b"three"])
-    print("# The wanted answers are written by `python3 wanted.py`, which follows docs/FORMATS.md by struct and hashlib. `disk` makes")
+    print("# The wanted answers are written by `python3 wanted.py`, which follows docs/proof/FORMATS.md by struct and hashlib. `disk` makes")
     print("# a disk in memory of Head, One and Two; behind them are the numbers of its calls that fail. `\\e` is no byte.")
     say("The log of three payloads in One, with the second left out and one more, is in Two then.")
     t.disk(b"\1", log, b"")

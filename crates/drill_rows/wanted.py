@@ -1,8 +1,8 @@
 #!/usr/bin/env python3
-"""Prints the wanted table of drill_rows: `python3 wanted.py > stdout`, and stdin by docs/CONTRIBUTING.md.
+"""Prints the wanted table of drill_rows: `python3 wanted.py > stdout`, and stdin by docs/developer/CONTRIBUTING.md.
 
 What a drill's line says is counted here: its requests are asked of tests/model.py, and its tasks are those of tests/turns.py, by commands
-that are written here with Python's `hashlib`. Words are read by the grammar of docs/OPERATING.md. Nothing here knows the code.
+that are written here with Python's `hashlib`. Words are read by the grammar of docs/operator/OPERATING.md. Nothing here knows the code.
 """
 import hashlib
 import pathlib

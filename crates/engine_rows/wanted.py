@@ -1,7 +1,7 @@
 #!/usr/bin/env python3
 """Prints the wanted table of engine_rows: `python3 wanted.py > stdout`.
 
-It follows docs/FORMATS.md and the READMEs of mt_engine and mt_tree with struct and hashlib, and knows nothing of their code.
+It follows docs/proof/FORMATS.md and the READMEs of mt_engine and mt_tree with struct and hashlib, and knows nothing of their code.
 Commands on jobs are spelled by the table of account_rows, and taken by its account. The texts of a job are those of job_rows.
 """
 import copy

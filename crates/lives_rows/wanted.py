@@ -1,8 +1,8 @@
 #!/usr/bin/env python3
-"""Prints the wanted table of lives_rows: `python3 wanted.py > stdout`, and stdin by docs/CONTRIBUTING.md.
+"""Prints the wanted table of lives_rows: `python3 wanted.py > stdout`, and stdin by docs/developer/CONTRIBUTING.md.
 
 A life is that of tests/model.py with the turns of session_rows' children; what a crash leaves of it is what the model was before the call or
-behind it, by the calls that README.md of mt_log and docs/FORMATS.md count of a command. Nothing here knows the code.
+behind it, by the calls that README.md of mt_log and docs/proof/FORMATS.md count of a command. Nothing here knows the code.
 """
 import collections
 import copy

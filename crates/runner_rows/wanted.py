@@ -1,5 +1,5 @@
 #!/usr/bin/env python3
-"""Prints the wanted table of runner_rows: `python3 wanted.py > stdout`, and stdin by docs/CONTRIBUTING.md.
+"""Prints the wanted table of runner_rows: `python3 wanted.py > stdout`, and stdin by docs/developer/CONTRIBUTING.md.
 
 What stands and what is committed is that of tests/model.py and tests/turns.py; commands are functions of what they read, which stand below, and
 so do children, slots and calls of the disk, by the pages of mt_runner, mt_tasks and mt_spawn. Nothing here knows the code.

@@ -1,7 +1,7 @@
 #!/usr/bin/env python3
-"""Prints the wanted table of session_rows: `python3 wanted.py > stdout`, and stdin by docs/CONTRIBUTING.md.
+"""Prints the wanted table of session_rows: `python3 wanted.py > stdout`, and stdin by docs/developer/CONTRIBUTING.md.
 
-Replies are those of tests/model.py, commits those of tests/turns.py, by children that are counted here; logs are written here by docs/FORMATS.md with Python's `struct` and `hashlib`, and statuses
+Replies are those of tests/model.py, commits those of tests/turns.py, by children that are counted here; logs are written here by docs/proof/FORMATS.md with Python's `struct` and `hashlib`, and statuses
 and counts of calls stand below by hand. Nothing here knows the code.
 """
 import hashlib
@@ -82,7 +82,7 @@ def refusal(code, position, moment=0):
 INTERIM = b"HTTP/1.1 100 Continue\r\n\r\n"
 
 
-# Logs, by docs/FORMATS.md.
+# Logs, by docs/proof/FORMATS.md.
 def record(payload):
     return b"\x01" + struct.pack(">I", len(payload)) + hashlib.md5(payload).digest() + payload
 

@@ -1,5 +1,5 @@
 #!/usr/bin/env python3
-"""Prints the table of snapshot_rows with the wanted answers: records laid out by Python's struct from the tables of docs/FORMATS.md, and
+"""Prints the table of snapshot_rows with the wanted answers: records laid out by Python's struct from the tables of docs/proof/FORMATS.md, and
 digests by its hashlib."""
 import hashlib
 import struct
@@ -343,7 +343,7 @@ def others():
 
 
 def main():
-    print("# Records of a snapshot, in hexadecimal. The bytes are those of docs/FORMATS.md, laid out by Python's struct. A body is the place of its")
+    print("# Records of a snapshot, in hexadecimal. The bytes are those of docs/proof/FORMATS.md, laid out by Python's struct. A body is the place of its")
     print('# first piece and its length. "written 4096" is the record that was read last with each body 4,096 bytes further behind, "digest" the')
     print('# number and the MD5 of these bytes, "fronts 00" the lengths at which its bytes, with a 0 behind them, are a record when they are cut')
     print("# there.")

@@ -1,6 +1,6 @@
 #!/usr/bin/env python3
 """Prints the table of upload_rows with the wanted answers: documents are judged by Python's json, identifiers made by its uuid,
-accounts kept as plain dictionaries, and logs written with struct and hashlib by docs/FORMATS.md."""
+accounts kept as plain dictionaries, and logs written with struct and hashlib by docs/proof/FORMATS.md."""
 import hashlib
 import itertools
 import json
