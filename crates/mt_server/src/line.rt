@@ -102,7 +102,10 @@ fn put_line(out: &mut Vec<u8>, why: &Unreadable) -> Result<(), AllocError>
 {
     match *why {
         Unreadable::NotALog => put_words(out, b"mantad: the log file is not a mantad log\n"),
-        Unreadable::OldVersion => put_words(out, b"mantad: log version MTLOG001 is not supported\n"),
+        Unreadable::OldVersion => put_words(
+            out,
+            b"mantad: log version MTLOG001 is not supported\n",
+        ),
         Unreadable::Damaged { at, kept, computed } => put_damaged(out, at, &kept, &computed),
         Unreadable::Short { at, wanted, left } => put_short(out, at, wanted, left),
         Unreadable::Foreign { at } => put_foreign(out, at),
