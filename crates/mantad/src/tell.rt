@@ -98,16 +98,16 @@ fn tell_help(rt: &HostRuntime) {
     say(rt, "try 'mantad --help'");
 }
 
-// What the value of an option must be.
-fn value_of(option: &str) -> &'static str {
+// What is asked of the value of an option.
+fn rule_of(option: &str) -> &'static str {
     match option {
-        "--login" => "1 to 64 letters, digits, '_' or '-'",
-        "--slots" => "1 to 64",
-        "--log-limit" => "9 to 68719476736",
-        "--connections" => "1 to 1000000",
-        "--at" => "0 to 253402300799",
-        "--helper" | "--launcher" => "a name without '/', or an absolute path",
-        _ => "not empty",
+        "--login" => "must be 1 to 64 letters, digits, '_' or '-'",
+        "--slots" => "must be 1 to 64",
+        "--log-limit" => "must be 9 to 68719476736",
+        "--connections" => "must be 1 to 1000000",
+        "--at" => "must be 0 to 253402300799",
+        "--helper" | "--launcher" => "must be a name without '/', or an absolute path",
+        _ => "must not be empty",
     }
 }
 
@@ -141,9 +141,9 @@ fn tell_fault(rt: &HostRuntime, words: &[String], fault: UsageFault) {
         UsageFault::BadValue { word: place } => {
             let option = word(words, place.saturating_sub(1));
             eprintln!(rt;
-                "mantad: invalid value '{}' for '{option}': must be {}",
+                "mantad: invalid value '{}' for '{option}': {}",
                 word(words, place),
-                value_of(option)
+                rule_of(option)
             )
         }
         UsageFault::Missing(option) => eprintln!(rt; "mantad: missing option '{}'", option.text()),
