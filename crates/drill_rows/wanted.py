@@ -188,12 +188,12 @@ def main():
         row("drill 1", 14, NOT_EMPTY)
 
     print("\n# Logs that can't be read, one of no version and one of the old; one with nothing but a piece of a body, one with a record that is no command, and one without a record.")
-    for head, one, said in (("\\x01", "nothing", b"mantad: not a log\n"), ("\\x01", "MTLOG001\\x00", b"mantad: old log, run compact\n")):
+    for head, one, said in (("\\x01", "nothing", b"mantad: the log file is not a mantad log\n"), ("\\x01", "MTLOG001\\x00", b"mantad: log version MTLOG001 is not supported\n")):
         print(f"store {head} {one} \\e")
         row("drill 1", 2, said)
         print("fail writes 0")
         row("drill 1", 2)
-    for payload, status, said in ((b"\0hi", 14, NOT_EMPTY), (b"\1hi", 2, b"mantad: foreign at 8\n")):
+    for payload, status, said in ((b"\0hi", 14, NOT_EMPTY), (b"\1hi", 2, b"mantad: unknown record at byte 8 of the log (written by another version?)\n")):
         record = b"\1" + struct.pack(">I", len(payload)) + hashlib.md5(payload).digest() + payload
         print(f"store \\x01 {word(b'MTLOG002' + record + bytes(1))} \\e")
         row("drill 1", status, said)

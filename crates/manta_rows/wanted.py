@@ -11,7 +11,7 @@ asked = importlib.util.module_from_spec(SPEC)
 SPEC.loader.exec_module(asked)
 
 PAGE = "application/x-json-stream; type=directory"
-USAGE = b"usage: manta_cli --url HOST:PORT --login L COMMAND [ARGUMENTS]\n"
+USAGE = b"usage: manta --url HOST:PORT --login NAME COMMAND [ARGUMENTS]\n"
 HEAD, BODY, OBJECT, INPUT, REQUESTS = 65536, 16777216, 1073741824, 16777216, 1000000
 WANTED = {"list": 200, "find": 200, "get": 200, "put": 204, "make": 204, "remove": 204, "link": 204, "create": 201, "add": 204, "end": 202, "cancel": 202, "status": 200, "outputs": 200}
 

@@ -14,6 +14,8 @@ sys.path.insert(0, str(pathlib.Path(__file__).resolve().parents[2] / "tests"))
 import turns as tasks  # noqa: E402
 from model import ERRORS, PHRASES, Store, http_date, identifier, pieces_size  # noqa: E402
 
+# The line of a record that is not a command.
+FOREIGN = "unknown record at byte {} of the log (written by another version?)"
 SESSION = "session --login l --store s --at 0"
 SERVE = "serve --login l --store s --at 0 --listen x --connections"
 USAGE = b"usage: mantad COMMAND [OPTIONS]\n"
@@ -457,30 +459,30 @@ def stores(t):
     t.files(log(JOB_COMMAND, b"\0hello", put_command(b"a", b"text/plain", 8 + 21 + len(JOB_COMMAND), 5)))
     t.note("Stores that are refused are left as they are: no log, a second log of another kind, an old log, and payloads that are no command.")
     bad = [
-        (b"MTLOG002", "not a log"), (b"MTLOG001\0", "old log, run compact"), (log(b"\xff"), "foreign at 8"), (log(b""), "foreign at 8"),
+        (b"MTLOG002", "the log file is not a mantad log"), (b"MTLOG001\0", "log version MTLOG001 is not supported"), (log(b"\xff"), FOREIGN.format(8)), (log(b""), FOREIGN.format(8)),
         # A put whose body stands in it, one whose body is nowhere, and one whose moment is too large.
-        (log(put_command(b"a", b"text/plain", 8, 5)[:-16] + struct.pack(">I", 5) + b"hello"), "foreign at 8"),
-        (log(put_command(b"a", b"text/plain", 8, 5)), "foreign at 8"),
-        (log(put_command(b"a", b"", 0, 0, moment=253_402_300_800)), "foreign at 8"),
-        (log(b"\0hello", put_command(b"a", b"", 8, 6)), "foreign at 35"),
-        (log(b"\0hello", put_command(b"..", b"", 8, 5)), "foreign at 35"),
+        (log(put_command(b"a", b"text/plain", 8, 5)[:-16] + struct.pack(">I", 5) + b"hello"), FOREIGN.format(8)),
+        (log(put_command(b"a", b"text/plain", 8, 5)), FOREIGN.format(8)),
+        (log(put_command(b"a", b"", 0, 0, moment=253_402_300_800)), FOREIGN.format(8)),
+        (log(b"\0hello", put_command(b"a", b"", 8, 6)), FOREIGN.format(35)),
+        (log(b"\0hello", put_command(b"..", b"", 8, 5)), FOREIGN.format(35)),
         # A delete of nothing, a directory for the second time, one in the area of jobs, a byte too many, and an end of the input of a job that isn't there.
-        (log(delete_command(b"a")), "foreign at 8"),
-        (log(directory_command(b"a"), directory_command(b"a")), f"foreign at {8 + 21 + len(directory_command(b'a'))}"),
-        (log(directory_command(b"a", area=2)), "foreign at 8"),
-        (log(directory_command(b"a") + b"\0"), "foreign at 8"),
-        (log(struct.pack(">BQQ", 7, 0, 0)), "foreign at 8"),
+        (log(delete_command(b"a")), FOREIGN.format(8)),
+        (log(directory_command(b"a"), directory_command(b"a")), FOREIGN.format(8 + 21 + len(directory_command(b'a')))),
+        (log(directory_command(b"a", area=2)), FOREIGN.format(8)),
+        (log(directory_command(b"a") + b"\0"), FOREIGN.format(8)),
+        (log(struct.pack(">BQQ", 7, 0, 0)), FOREIGN.format(8)),
     ]
     broken = hello.replace(b"hello", b"hellp")
     kept, computed = hashlib.md5(b"\0hello").hexdigest(), hashlib.md5(b"\0hellp").hexdigest()
-    bad += [(broken, f"damaged at 8 kept {kept} computed {computed}"), (hello[:-1], f"short at {len(hello) - 1} wanted 1 left 0"), (hello[:40], "short at 35 wanted 21 left 5")]
+    bad += [(broken, f"log damaged at byte 8: stored MD5 {kept}, computed {computed}"), (hello[:-1], f"log truncated at byte {len(hello) - 1}: 1 bytes expected, 0 left"), (hello[:40], "log truncated at byte 35: 21 bytes expected, 5 left")]
     t.given(put("a"), get("a"))
     for one, why in bad:
         t.holds(b"\x01", one)
         t.run(SESSION, 2, f"mantad: {why}\n".encode())
         t.files(one)
     t.holds(b"\x02", hello, b"MTLOG003\0")
-    t.run(SESSION, 2, b"mantad: not a log\n")
+    t.run(SESSION, 2, b"mantad: the log file is not a mantad log\n")
     t.files(hello, b"\x02", b"MTLOG003\0")
     t.note("The same where the line can't be written, and where the disk fails: nothing is written then.")
     t.holds(b"\x01", b"MTLOG002")
@@ -491,7 +493,7 @@ def stores(t):
     t.run(SESSION, 5)
     t.files(b"MTLOG002")
     t.note("A serve over such a store takes no link.")
-    t.run(f"{SERVE} 1", 2, b"mantad: not a log\n")
+    t.run(f"{SERVE} 1", 2, b"mantad: the log file is not a mantad log\n")
 
 
 def limits(t):

@@ -1,14 +1,16 @@
 //! `manta_cli`: a client of the store over a connection to it. It makes the objects and calls `mt_client`.
 //!
 //! - `dial`: the connection, which is made at its first call. `output`: standard output, which knows what was last written to it.
-//! - `tell`: what is said on standard error.
+//! - `help`: what `--help` and `--version` print. `tell`: what is said on standard error.
 #![tactic(auto)]
 
 mod dial;
+mod help;
 mod output;
 mod tell;
 
 use dial::Dial;
+use help::print_help;
 use mt_adapters::{Standard, StdSink, StdSource, words_of};
 use mt_ask::url_of;
 use mt_base::Text;
@@ -38,18 +40,22 @@ fn address_of(alloc: Global, words: &[String]) -> Result<Text, AllocError> {
 }
 
 // Runs the words that the program was called with.
-fn call_words(rt: HostRuntime) -> Result<ClientEnd, AllocError> {
+fn call_words(rt: HostRuntime) -> Result<u8, AllocError> {
     let alloc = rt.alloc();
     let words = words_of(&rt, alloc)?;
+    if let Some(status) = print_help(rt, &words) {
+        return Ok(status);
+    }
     let address = address_of(alloc, &words)?;
-    call(rt, &words, address.as_str())
+    let end = call(rt, &words, address.as_str())?;
+    Ok(end.code())
 }
 
 fn main(rt: HostRuntime) -> ExitCode {
     // Where a number can't be held, none is free.
     let _held = Standard::hold(&rt);
     match call_words(rt) {
-        Ok(end) => ExitCode::from(end.code()),
+        Ok(status) => ExitCode::from(status),
         Err(AllocError) => {
             tell_end(&rt, ClientEnd::Memory, "", None, b"");
             ExitCode::from(ClientEnd::Memory.code())

@@ -17,27 +17,24 @@ pub(crate) fn tell_end(
 ) {
     match end {
         ClientEnd::Done => {}
-        ClientEnd::Usage => say(
-            rt,
-            "these words are no command; `./manta --help` tells them",
-        ),
+        ClientEnd::Usage => say(rt, "unknown command or wrong arguments; try 'manta --help'"),
         ClientEnd::Refused => tell_refusal(rt, last),
-        ClientEnd::SourceFault => say(rt, "standard input can't be read"),
-        ClientEnd::SinkFault => say(rt, "standard output can't be written to"),
+        ClientEnd::SourceFault => say(rt, "cannot read standard input"),
+        ClientEnd::SinkFault => say(rt, "cannot write to standard output"),
         ClientEnd::LinkFault => tell_link(rt, address, failure),
         ClientEnd::BadReply => {
             let _ = eprintln!(rt;
-                "manta: the connection to {address} ended before the reply did, or what came is no reply of a store to these words"
+                "manta: {address} closed the connection early, or sent an invalid reply"
             );
         }
         ClientEnd::TooManyRequests => say(
             rt,
-            "one run makes 1000000 requests at most; what is behind them is not listed",
+            "listing incomplete: limit of 1000000 requests reached",
         ),
         ClientEnd::Memory => say(rt, "out of memory"),
         ClientEnd::InputTooLarge => say(
             rt,
-            "standard input has more than 16777216 bytes, the most that one request carries; nothing was sent",
+            "input larger than 16777216 bytes; nothing was sent (use curl -T, up to 1 GiB)",
         ),
     }
 }
@@ -48,16 +45,16 @@ fn tell_refusal(rt: &HostRuntime, last: &[u8]) {
         Ok(line) => {
             let _ = eprintln!(rt; "manta: refused: {}", line.trim_ascii_end());
         }
-        Err(_) => say(rt, "refused; standard output has the reason"),
+        Err(_) => say(rt, "refused; the reason is on standard output"),
     }
 }
 
 // Says what became of the connection.
 fn tell_link(rt: &HostRuntime, address: &str, failure: Option<&io::Error>) {
     let _ = match failure {
-        Some(failure) => eprintln!(rt; "manta: no connection to {address}: {failure}"),
+        Some(failure) => eprintln!(rt; "manta: cannot connect to {address}: {failure}"),
         None => eprintln!(rt;
-            "manta: the connection to {address} failed; what was asked for may have been done or not"
+            "manta: connection to {address} failed; the request may or may not have taken effect"
         ),
     };
 }

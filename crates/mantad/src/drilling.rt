@@ -15,7 +15,7 @@ fn drill_on_files(rt: HostRuntime, asked: &DrillWords) -> Result<u8, AllocError>
 {
     let alloc = rt.alloc();
     let store = asked.store.as_str();
-    let mut disk = FileDisk::new(alloc, rt, store)?;
+    let mut disk = FileDisk::new(alloc, rt, store)?.telling(true);
     let mut sink = StdSink::over(rt.stdout());
     let count = asked.count;
     let end = match asked.at {

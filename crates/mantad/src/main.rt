@@ -1,10 +1,11 @@
 //! `mantad`: the store over files, standard input and standard output, or over the connections to an address, with tasks under a
 //! shell. It makes the objects and calls `mt_server`, or `mt_drill` for a drill.
 //!
-//! - `drilling`: a drill by its words. `tell`: what is said on standard error. `helper`: where the program of the helpers is.
+//! - `drilling`: a drill by its words. `help`: what `--help` and `--version` print. `tell`: what is said on standard error. `helper`: where the program of the helpers is.
 #![tactic(auto)]
 
 mod drilling;
+mod help;
 mod helper;
 mod tell;
 
@@ -17,6 +18,7 @@ ghost use Rattle.mt_adapters.specs.Device.{first_door};
 ghost use Rattle.mt_children.specs.State.{IsIdle};
 
 use drilling::run_drill;
+use help::print_help;
 use helper::helper_of;
 use mt_adapters::{FileDisk, Standard, StdSink, StdSource, SystemClock, TcpDoor, Wakes, words_of};
 use mt_children::ShSpawner;
@@ -31,7 +33,7 @@ use std::rc::Rc;
 use std::time::Duration;
 use tell::{tell_door, tell_status, tell_tasks, tell_usage};
 
-/// The status where memory is wanted before the store is called.
+/// The status where an allocation fails before the store is called.
 const OUT_OF_MEMORY: u8 = 8;
 
 /// The status where the door failed.
@@ -202,7 +204,8 @@ fn call_on_files(rt: HostRuntime, words: &[String], settings: &Settings) -> Resu
     requires moment { IfSome settings.now.at (λ moment. moment ≤ LAST_MOMENT) }
 {
     let store = settings.store.as_str();
-    let mut disk = FileDisk::new(rt.alloc(), rt, store)?;
+    let is_serve = matches!(settings.mode, Mode::Serve { .. });
+    let mut disk = FileDisk::new(rt.alloc(), rt, store)?.telling(is_serve);
     let status = match &settings.mode {
         Mode::Session => session(rt, words, settings, &mut disk)?,
         Mode::Serve { listen, .. } => serve(rt, words, settings, &mut disk, listen.as_str())?,
@@ -234,6 +237,9 @@ fn run_service(rt: HostRuntime, words: &[String]) -> Result<u8, AllocError> {
 // Does what the words ask for.
 fn run(rt: HostRuntime) -> Result<u8, AllocError> {
     let words = words_of(&rt, rt.alloc())?;
+    if let Some(status) = print_help(rt, &words) {
+        return Ok(status);
+    }
     match words.as_slice() {
         [command, behind @ ..] if command.as_str() == DRILL => match run_drill(rt, behind)? {
             Some(status) => Ok(status),

@@ -14,18 +14,18 @@ fn say(rt: &HostRuntime, line: &str) {
 pub(crate) fn tell_status(rt: &HostRuntime, status: u8, store: &str, failure: Option<&Failure>) {
     match status {
         0 | 1 | 2 | 6 | 7 | 9 | 10 | 14 => {}
-        3 => say(rt, "standard input can't be read"),
-        4 => say(rt, "standard output can't be written to"),
+        3 => say(rt, "cannot read standard input"),
+        4 => say(rt, "cannot write to standard output"),
         5 => tell_disk(rt, store, failure),
         8 => say(rt, "out of memory"),
-        11 => say(rt, "standard input ends within a request"),
+        11 => say(rt, "standard input ended in the middle of a request"),
         12 => say(
             rt,
-            "what stands on standard input is no request, or its body is too long",
+            "standard input is not a valid request, or its body is too large",
         ),
         13 => say(
             rt,
-            "one session answers no more requests; what follows was not read",
+            "limit of 16777216 requests per session reached; the rest of the input was not read",
         ),
         _ => {
             let _ = eprintln!(rt; "mantad: status {status}");
@@ -38,14 +38,14 @@ pub(crate) fn tell_tasks(rt: &HostRuntime, status: u8, failure: Option<&TaskFaul
     match (status, failure) {
         (6, Some(failure)) => {
             let _ = eprintln!(rt;
-                "mantad: tasks wait that could not be started or looked at: {failure}; mend that and start again"
+                "mantad: some tasks could not be started or checked: {failure}; fix this and restart"
             );
         }
-        (6, None) => say(rt, "tasks wait that could not be started or looked at"),
-        (7, _) => say(rt, "tasks have not ended; start again to go on"),
+        (6, None) => say(rt, "some tasks could not be started or checked"),
+        (7, _) => say(rt, "tasks are still running; restart to let them finish"),
         (9, _) => say(
             rt,
-            "the log has no room for the end of a task or a job; start again with a larger --log-limit, or cancel the job in a session",
+            "log full: the end of a task or job cannot be recorded; restart with a larger --log-limit, or cancel the job in a session",
         ),
         _ => {}
     }
@@ -54,10 +54,10 @@ pub(crate) fn tell_tasks(rt: &HostRuntime, status: u8, failure: Option<&TaskFaul
 fn tell_disk(rt: &HostRuntime, store: &str, failure: Option<&Failure>) {
     match failure {
         Some(failure) => {
-            let _ = eprintln!(rt; "mantad: the store {store}: {failure}");
+            let _ = eprintln!(rt; "mantad: store {store}: {failure}");
         }
         None => {
-            let _ = eprintln!(rt; "mantad: the store {store}: a call failed");
+            let _ = eprintln!(rt; "mantad: store {store}: I/O error");
         }
     }
 }
@@ -65,8 +65,8 @@ fn tell_disk(rt: &HostRuntime, store: &str, failure: Option<&Failure>) {
 /// Says why the door gave no link.
 pub(crate) fn tell_door(rt: &HostRuntime, listen: &str, failure: Option<&io::Error>) {
     let _ = match failure {
-        Some(failure) => eprintln!(rt; "mantad: the address {listen}: {failure}"),
-        None => eprintln!(rt; "mantad: the address {listen}: a call failed"),
+        Some(failure) => eprintln!(rt; "mantad: cannot listen on {listen}: {failure}"),
+        None => eprintln!(rt; "mantad: cannot listen on {listen}"),
     };
 }
 
@@ -75,23 +75,40 @@ pub(crate) fn tell_drill(rt: &HostRuntime, words: &[String], fault: WordsFault) 
     match (fault, words.first()) {
         (WordsFault::BadCount, Some(count)) => {
             let _ = eprintln!(rt;
-                "mantad: `{}` is no number of objects from 1 to 10000",
+                "mantad: invalid object count '{}': must be 1 to 10000",
                 count.as_str()
             );
         }
         (WordsFault::NoCount | WordsFault::BadCount, _) => say(
             rt,
-            "`drill` has no number of objects",
+            "missing object count: must be 1 to 10000",
         ),
         (WordsFault::Usage(fault), _) => tell_fault(rt, words, fault),
     }
-    say(rt, "`./mantad --help` tells the words");
+    tell_help(rt);
 }
 
 /// Says which word is wrong.
 pub(crate) fn tell_usage(rt: &HostRuntime, words: &[String], fault: UsageFault) {
     tell_fault(rt, words, fault);
-    say(rt, "`./mantad --help` tells the words");
+    tell_help(rt);
+}
+
+fn tell_help(rt: &HostRuntime) {
+    say(rt, "try 'mantad --help'");
+}
+
+// What is asked of the value of an option.
+fn rule_of(option: &str) -> &'static str {
+    match option {
+        "--login" => "must be 1 to 64 letters, digits, '_' or '-'",
+        "--slots" => "must be 1 to 64",
+        "--log-limit" => "must be 9 to 68719476736",
+        "--connections" => "must be 1 to 1000000",
+        "--at" => "must be 0 to 253402300799",
+        "--helper" | "--launcher" => "must be a name without '/', or an absolute path",
+        _ => "must not be empty",
+    }
 }
 
 // A word behind the command.
@@ -104,30 +121,31 @@ fn word(words: &[String], place: usize) -> &str {
 
 fn tell_fault(rt: &HostRuntime, words: &[String], fault: UsageFault) {
     let _ = match fault {
-        UsageFault::NoCommand => eprintln!(rt; "mantad: there is no command"),
+        UsageFault::NoCommand => eprintln!(rt; "mantad: missing command"),
         UsageFault::UnknownCommand => match words.first() {
-            Some(command) => eprintln!(rt; "mantad: `{}` is no command", command.as_str()),
-            None => eprintln!(rt; "mantad: there is no command"),
+            Some(command) => eprintln!(rt; "mantad: unknown command '{}'", command.as_str()),
+            None => eprintln!(rt; "mantad: missing command"),
         },
         UsageFault::UnknownOption { word: place } => {
             eprintln!(rt;
-                "mantad: `{}` is no option of this command",
+                "mantad: unknown option '{}' of this command",
                 word(words, place)
             )
         }
         UsageFault::NoValue { word: place } => {
-            eprintln!(rt; "mantad: `{}` has no value", word(words, place))
+            eprintln!(rt; "mantad: option '{}' needs a value", word(words, place))
         }
         UsageFault::Twice { word: place } => {
-            eprintln!(rt; "mantad: `{}` stands twice", word(words, place))
+            eprintln!(rt; "mantad: option '{}' given twice", word(words, place))
         }
         UsageFault::BadValue { word: place } => {
+            let option = word(words, place.saturating_sub(1));
             eprintln!(rt;
-                "mantad: `{}` is no value of `{}`",
+                "mantad: invalid value '{}' for '{option}': {}",
                 word(words, place),
-                word(words, place.saturating_sub(1))
+                rule_of(option)
             )
         }
-        UsageFault::Missing(option) => eprintln!(rt; "mantad: `{}` is missing", option.text()),
+        UsageFault::Missing(option) => eprintln!(rt; "mantad: missing option '{}'", option.text()),
     };
 }

@@ -28,9 +28,9 @@ fn tell_usage(rt: &HostRuntime, tool: &str) {
 fn tell_spool(rt: &HostRuntime, tool: &str, failure: Option<&io::Error>) {
     match failure {
         Some(failure) => {
-            let _ = eprintln!(rt; "{tool}: the task's records: {failure}");
+            let _ = eprintln!(rt; "{tool}: cannot write the task's records: {failure}");
         }
-        None => say(rt, tool, "the task's records: a call failed"),
+        None => say(rt, tool, "cannot write the task's records"),
     }
 }
 
@@ -48,16 +48,12 @@ pub(crate) fn tell(
     match status {
         Status::Done => {}
         Status::Usage => tell_usage(rt, tool),
-        Status::BadPath => say(rt, tool, "a path is none of this account"),
-        Status::SourceFault => say(rt, tool, "standard input can't be read"),
-        Status::SinkFault => say(rt, tool, "standard output can't be written to"),
+        Status::BadPath => say(rt, tool, "path is not in this account"),
+        Status::SourceFault => say(rt, tool, "cannot read standard input"),
+        Status::SinkFault => say(rt, tool, "cannot write to standard output"),
         Status::SpoolFault => tell_spool(rt, tool, failure),
-        Status::NumbersTaken => say(rt, tool, "the task has 4,095 records, and gets no more"),
-        Status::InputTooLarge => say(
-            rt,
-            tool,
-            "more than 16,777,216 bytes stand on standard input",
-        ),
+        Status::NumbersTaken => say(rt, tool, "limit of 4,095 records per task reached"),
+        Status::InputTooLarge => say(rt, tool, "standard input has more than 16,777,216 bytes"),
         Status::OutOfMemory => say(rt, tool, "out of memory"),
     }
 }

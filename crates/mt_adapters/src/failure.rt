@@ -1,5 +1,6 @@
 //! Why a call of a store's files failed.
 use mt_disk::FileNo;
+use std::io::ErrorKind;
 use std::{fmt, io};
 
 /// What was asked of a file.
@@ -76,11 +77,29 @@ impl FileCall {
         match self {
             FileCall::Open => "open",
             FileCall::Lock => "lock",
-            FileCall::Length => "ask the length of",
+            FileCall::Length => "get the length of",
             FileCall::Read => "read",
-            FileCall::Write => "write to",
-            FileCall::Cut => "cut",
+            FileCall::Write => "write",
+            FileCall::Cut => "truncate",
             FileCall::Sync => "sync",
+        }
+    }
+}
+
+// Whether there is no room for what was to be written.
+fn is_full(error: &io::Error) -> bool {
+    matches!(
+        error.kind(),
+        ErrorKind::StorageFull | ErrorKind::QuotaExceeded
+    )
+}
+
+// How to name a log that is there.
+fn to_restore(file: FileNo) -> &'static str {
+    match file {
+        FileNo::Two => "To restore it: printf '\\002' > head; or move the log away",
+        FileNo::One | FileNo::Head => {
+            "To restore it: printf '\\001' > head ('\\002' if the store used log2); or move the logs away"
         }
     }
 }
@@ -91,27 +110,33 @@ impl fmt::Display for Failure {
             Failure::Call { call, file, error } => {
                 let name = match file {
                     Some(file) => name_of(*file),
-                    None => "the folder",
+                    None => "the directory",
                 };
-                write!(f, "cannot {} {}: {}", call.words(), name, error)
+                write!(f, "cannot {} {}: {}", call.words(), name, error)?;
+                if is_full(error) {
+                    f.pad("; acknowledged data is safe: free space and restart")?;
+                }
+                Ok(())
             }
-            Failure::InUse => f.pad("another program has this store"),
+            Failure::InUse => f.pad("in use by another process"),
             Failure::NotAFile(file) => {
                 write!(
                     f,
-                    "{} is a folder, a link or a device, and no file",
+                    "'{}' is a directory, a link or a device, not a regular file",
                     name_of(*file)
                 )
             }
             Failure::HeadLost(file) => {
                 write!(
                     f,
-                    "head is missing or empty, but {} holds a log, which would be overwritten: ",
+                    "'head' is missing or empty, but '{}' holds a log; not overwriting it. ",
                     name_of(*file)
                 )?;
-                f.pad("put head back, one byte, 1 for log1 or 2 for log2; or move the logs away")
+                f.pad(to_restore(*file))
             }
-            Failure::Lost => f.pad("a sync has failed before"),
+            Failure::Lost => f.pad(
+                "an earlier fsync failed, so what was written may not reach the disk: restart",
+            ),
         }
     }
 }

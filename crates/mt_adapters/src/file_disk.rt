@@ -8,6 +8,7 @@ use mt_disk::{Disk, DiskFault, FileNo};
 use std::alloc::{AllocError, Global};
 use std::fs::File;
 use std::io;
+use std::io::Eprint;
 use std::marker::Model;
 use std::rt::Files;
 
@@ -57,6 +58,15 @@ impl<R> FileDisk<R> {
         })
     }
 
+    /// The same disk, which says on standard error how far its first reader has come, once each 5 s, and, where that is asked for, what it
+    /// opens.
+    pub fn telling(mut self, opening: bool) -> FileDisk<R>
+        ensures { result ≡ self }
+    {
+        self.folder = self.folder.telling(opening);
+        self
+    }
+
     /// How often a call has failed.
     pub fn faults(&self) -> u64
         ensures { result ≡ self.now }
@@ -88,7 +98,7 @@ impl<R> FileDisk<R> {
     }
 }
 
-impl<R: Files<File = File>> Disk for FileDisk<R> {
+impl<R: Files<File = File> + Eprint> Disk for FileDisk<R> {
     ghost use Rattle.std.specs.Prelude.{◌≡◌, None, ⊤};
     ghost use Rattle.std.proofs.lemmas.Option.{none-some};
     ghost use Rattle.mt_adapters.specs.Device.{faults_after};
@@ -122,6 +132,8 @@ impl<R: Files<File = File>> Disk for FileDisk<R> {
             Ok(open) => on_file(FileCall::Read, file, open.read(at, into)),
             Err(failure) => Err(failure),
         };
+        self.folder
+            .tell_read(file, at.saturating_add(into.len() as u64));
         self.counted(done)
     }
 
@@ -132,6 +144,7 @@ impl<R: Files<File = File>> Disk for FileDisk<R> {
             Ok(open) => on_file(FileCall::Write, file, open.write(at, piece)),
             Err(failure) => Err(failure),
         };
+        self.folder.tell_no_more();
         self.counted(done)
     }
 

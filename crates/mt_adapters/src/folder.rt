@@ -1,10 +1,11 @@
 //! The folder of a store, which belongs to one program at a time.
 use crate::failure::{Failure, FileCall, name_of};
+use crate::progress::Progress;
 use mt_disk::FileNo;
 use std::alloc::{AllocError, Global};
 use std::fs::{self, File, OpenOptions, TryLockError};
 use std::io;
-use std::io::ErrorKind;
+use std::io::{Eprint, ErrorKind};
 use std::os::unix::fs::FileExt;
 use std::rt::Files;
 
@@ -154,6 +155,9 @@ pub(crate) struct Folder<R> {
     files: Option<OpenFiles>,
     // After a sync that failed, the system may give bytes that never reach the disk: no call succeeds any more.
     lost: bool,
+    progress: Progress,
+    tells_progress: bool,
+    tells_opening: bool,
 }
 
 impl<R> Folder<R> {
@@ -170,7 +174,22 @@ impl<R> Folder<R> {
             two: format!(in alloc; "{path}/{}", name_of(FileNo::Two))?,
             files: None,
             lost: false,
+            progress: Progress::none(),
+            tells_progress: false,
+            tells_opening: false,
         })
+    }
+
+    /// The same folder, which says on standard error how far its log was read, and what is opened, where that is asked for.
+    pub(crate) fn telling(mut self, opening: bool) -> Folder<R> {
+        self.tells_progress = true;
+        self.tells_opening = opening;
+        self
+    }
+
+    /// Says nothing more of reads.
+    pub(crate) fn tell_no_more(&mut self) {
+        self.progress.stop();
     }
 
     fn path_of(&self, file: FileNo) -> &str {
@@ -182,7 +201,7 @@ impl<R> Folder<R> {
     }
 }
 
-impl<R: Files<File = File>> Folder<R> {
+impl<R: Files<File = File> + Eprint> Folder<R> {
     // How long a file is, if it is there.
     fn len_of(&self, file: FileNo) -> Result<Option<u64>, Failure> {
         match fs::symlink_metadata(&self.rt, self.path_of(file)) {
@@ -222,16 +241,31 @@ impl<R: Files<File = File>> Folder<R> {
         }
     }
 
-    // Refuses what is no store, before anything is touched.
-    fn look(&self) -> Result<(), Failure> {
+    // Refuses what is not a store, before anything is touched. How far its log is read is told from here on.
+    fn look(&self) -> Result<Progress, Failure> {
         let head = self.len_of(FileNo::Head)?;
         let one = self.len_of(FileNo::One)?;
         let two = self.len_of(FileNo::Two)?;
-        if head.unwrap_or(0) > 0 {
-            return Ok(());
+        if head.unwrap_or(0) == 0 {
+            self.keep_log(FileNo::One, one)?;
+            self.keep_log(FileNo::Two, two)?;
         }
-        self.keep_log(FileNo::One, one)?;
-        self.keep_log(FileNo::Two, two)
+        Ok(Progress::of(one.unwrap_or(0), two.unwrap_or(0)))
+    }
+
+    // Says what is opened, and has reads told.
+    fn tell_opening(&mut self, progress: Progress) {
+        if self.tells_opening {
+            progress.tell_opening(&self.rt, &self.path);
+        }
+        if self.tells_progress {
+            self.progress = progress;
+        }
+    }
+
+    /// Takes it that a file was read up to a place.
+    pub(crate) fn tell_read(&mut self, file: FileNo, to: u64) {
+        self.progress.read_to(&self.rt, file, to);
     }
 
     fn open_file(&self, file: FileNo) -> Result<OpenFile, Failure> {
@@ -248,7 +282,8 @@ impl<R: Files<File = File>> Folder<R> {
             return Err(Failure::of_folder(FileCall::Open, error));
         }
         let folder = take_folder(&self.rt, &self.path)?;
-        self.look()?;
+        let progress = self.look()?;
+        self.tell_opening(progress);
         let files = OpenFiles {
             folder,
             head: self.open_file(FileNo::Head)?,

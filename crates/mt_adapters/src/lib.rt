@@ -1,6 +1,7 @@
 //! The real ends of the store: files, streams, sockets and the system's clock, each over its trait. None tells what it holds.
 //!
-//! - `file_disk`: the three files of a store; `folder`: their folder, which belongs to one program; `failure`: why a call failed.
+//! - `file_disk`: the three files of a store; `folder`: their folder, which belongs to one program; `failure`: why a call failed;
+//!   `progress`: what a start says.
 //! - `counted`: standard input and output, or any other reader and writer, with counted faults; `patient`: streams that wait.
 //! - `tcp_door`: the clients that connect; `set`: what is waited for at once; `places`: the links that are not in their turn;
 //!   `tcp_link`: one of them, over `wire`, its socket, and `ahead`, what came of it before it was asked for.
@@ -20,6 +21,7 @@ mod folder;
 mod limits;
 mod patient;
 mod places;
+mod progress;
 mod readiness;
 mod set;
 mod standard;

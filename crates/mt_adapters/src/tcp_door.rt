@@ -18,7 +18,7 @@ use std::net::{Net, TcpListener, TcpStream};
 use std::rc::Rc;
 
 /// Connections to an address, which is bound at the first call of `next`: `HOST:PORT`, where the host is an IPv4 address, an IPv6
-/// address in brackets or a name. At port 0 the system picks one, and standard error says which. A link is given where a whole
+/// address in brackets or a name. At port 0 the system picks one. Standard error says which address is bound. A link is given where a whole
 /// message of it has come, or nothing more of it will; behind its turn it is kept, if it has not ended. At most 512 links are
 /// open. It tells neither the links that wait nor those that were given back, which are ended in an orderly way and closed.
 #[derive(Drop)]
@@ -54,10 +54,8 @@ fn bind<R: Net<Listener = TcpListener, Stream = TcpStream> + Eprint>(
     address: &str,
 ) -> io::Result<TcpListener> {
     let listener = TcpListener::bind(rt, address)?;
-    if address.ends_with(":0") {
-        let bound = listener.local_addr()?;
-        let _ = eprintln!(rt; "mantad: listening at {bound}");
-    }
+    let bound = listener.local_addr()?;
+    let _ = eprintln!(rt; "mantad: listening at {bound}");
     Ok(listener)
 }
 

@@ -38,9 +38,9 @@ impl Tool {
     // Its name.
     fn words(self) -> &'static str {
         match self {
-            Tool::Shell => "`sh`",
-            Tool::Setsid => "`setsid`",
-            Tool::Helper => "the program of the helpers",
+            Tool::Shell => "'sh'",
+            Tool::Setsid => "'setsid'",
+            Tool::Helper => "the helper program (--helper)",
         }
     }
 }
@@ -48,15 +48,12 @@ impl Tool {
 impl fmt::Display for TaskFault {
     fn fmt<W: fmt::Write>(&self, f: &mut fmt::Formatter<W>) -> fmt::Result {
         match self {
-            TaskFault::Missing(tool) => write!(f, "{} is not found", tool.words()),
-            TaskFault::Start(error) => write!(f, "a task can't be started: {error}"),
-            TaskFault::NotRun => write!(
-                f,
-                "the launcher of a task has ended, and the task has not"
-            ),
-            TaskFault::Outcome(error) => write!(f, "what a task left can't be looked at: {error}"),
-            TaskFault::Read(error) => write!(f, "an output of a task can't be read: {error}"),
-            TaskFault::Remove(error) => write!(f, "the folder of a task can't be removed: {error}"),
+            TaskFault::Missing(tool) => write!(f, "{} not found", tool.words()),
+            TaskFault::Start(error) => write!(f, "cannot start a task: {error}"),
+            TaskFault::NotRun => write!(f, "the launcher exited before its task finished"),
+            TaskFault::Outcome(error) => write!(f, "cannot read the result of a task: {error}"),
+            TaskFault::Read(error) => write!(f, "cannot read an output of a task: {error}"),
+            TaskFault::Remove(error) => write!(f, "cannot remove the directory of a task: {error}"),
         }
     }
 }

@@ -18,7 +18,7 @@ Plays w input a e b = MatchBool (is_listing w.ask) (PlaysPages w a e b) (PlaysOn
 
 -- how words are written
 abbrev pub usage_line : List ℕ
-usage_line = codes "usage: manta_cli --url HOST:PORT --login L COMMAND [ARGUMENTS]\n"
+usage_line = codes "usage: manta --url HOST:PORT --login NAME COMMAND [ARGUMENTS]\n"
 
 -- that line is written: what the sink got and its faults, the end, and after
 abbrev pub TellsUsage : Option (List ℕ) → ℕ → ClientEnd → Option (List ℕ) → ℕ → Type 0

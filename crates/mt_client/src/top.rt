@@ -22,7 +22,7 @@ fn usage<K: Sink>(sink: &mut K) -> ClientEnd
 {
     match write_all(
         sink,
-        b"usage: manta_cli --url HOST:PORT --login L COMMAND [ARGUMENTS]\n",
+        b"usage: manta --url HOST:PORT --login NAME COMMAND [ARGUMENTS]\n",
     ) {
         Ok(()) => ClientEnd::Usage,
         Err(SinkFault) => ClientEnd::SinkFault,

@@ -26,11 +26,11 @@ usage_line = codes "usage: mantad COMMAND [OPTIONS]\n"
 
 -- the line of a store that can't be opened
 abbrev pub line_of : Unreadable → Bytes
-line_of unreadable.NotALog = codes "mantad: not a log\n"
-line_of unreadable.OldVersion = codes "mantad: old log, run compact\n"
-line_of (unreadable.Damaged at kept computed) = codes "mantad: damaged at " ++ decimal at ++ codes " kept " ++ hex_text kept ++ codes " computed " ++ hex_text computed ++ codes "\n"
-line_of (unreadable.Short at wanted left) = codes "mantad: short at " ++ decimal at ++ codes " wanted " ++ decimal wanted ++ codes " left " ++ decimal left ++ codes "\n"
-line_of (unreadable.Foreign at) = codes "mantad: foreign at " ++ decimal at ++ codes "\n"
+line_of unreadable.NotALog = codes "mantad: the log file is not a mantad log\n"
+line_of unreadable.OldVersion = codes "mantad: log version MTLOG001 is not supported\n"
+line_of (unreadable.Damaged at kept computed) = codes "mantad: log damaged at byte " ++ decimal at ++ codes ": stored MD5 " ++ hex_text kept ++ codes ", computed " ++ hex_text computed ++ codes "\n"
+line_of (unreadable.Short at wanted left) = codes "mantad: log truncated at byte " ++ decimal at ++ codes ": " ++ decimal wanted ++ codes " bytes expected, " ++ decimal left ++ codes " left\n"
+line_of (unreadable.Foreign at) = codes "mantad: unknown record at byte " ++ decimal at ++ codes " of the log (written by another version?)\n"
 
 -- a line was written, or a front of it where the sink failed
 pub record SaysLine (line : Bytes) (got got' : Option Bytes) (write_faults write_faults' : ℕ) : Type 0 where

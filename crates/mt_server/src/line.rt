@@ -67,9 +67,9 @@ fn put_damaged(
 ) -> Result<(), AllocError>
     ensures { OnOk result (out.new.items ≡ out.old.items ++ line_of (Unreadable.Damaged at kept.now computed.now)) }
 {
-    put_number(out, b"mantad: damaged at ", at)?;
-    put_digest(out, b" kept ", kept)?;
-    put_digest(out, b" computed ", computed)?;
+    put_number(out, b"mantad: log damaged at byte ", at)?;
+    put_digest(out, b": stored MD5 ", kept)?;
+    put_digest(out, b", computed ", computed)?;
     put_words(out, b"\n")?;
     Ok(())
 }
@@ -79,10 +79,10 @@ fn put_damaged(
 fn put_short(out: &mut Vec<u8>, at: u64, wanted: u64, left: u64) -> Result<(), AllocError>
     ensures { OnOk result (out.new.items ≡ out.old.items ++ line_of (Unreadable.Short at wanted left)) }
 {
-    put_number(out, b"mantad: short at ", at)?;
-    put_number(out, b" wanted ", wanted)?;
-    put_number(out, b" left ", left)?;
-    put_words(out, b"\n")?;
+    put_number(out, b"mantad: log truncated at byte ", at)?;
+    put_number(out, b": ", wanted)?;
+    put_number(out, b" bytes expected, ", left)?;
+    put_words(out, b" left\n")?;
     Ok(())
 }
 
@@ -91,8 +91,8 @@ fn put_short(out: &mut Vec<u8>, at: u64, wanted: u64, left: u64) -> Result<(), A
 fn put_foreign(out: &mut Vec<u8>, at: u64) -> Result<(), AllocError>
     ensures { OnOk result (out.new.items ≡ out.old.items ++ line_of (Unreadable.Foreign at)) }
 {
-    put_number(out, b"mantad: foreign at ", at)?;
-    put_words(out, b"\n")?;
+    put_number(out, b"mantad: unknown record at byte ", at)?;
+    put_words(out, b" of the log (written by another version?)\n")?;
     Ok(())
 }
 
@@ -101,15 +101,18 @@ fn put_line(out: &mut Vec<u8>, why: &Unreadable) -> Result<(), AllocError>
     ensures { OnOk result (out.new.items ≡ out.old.items ++ line_of why.now) }
 {
     match *why {
-        Unreadable::NotALog => put_words(out, b"mantad: not a log\n"),
-        Unreadable::OldVersion => put_words(out, b"mantad: old log, run compact\n"),
+        Unreadable::NotALog => put_words(out, b"mantad: the log file is not a mantad log\n"),
+        Unreadable::OldVersion => put_words(
+            out,
+            b"mantad: log version MTLOG001 is not supported\n",
+        ),
         Unreadable::Damaged { at, kept, computed } => put_damaged(out, at, &kept, &computed),
         Unreadable::Short { at, wanted, left } => put_short(out, at, wanted, left),
         Unreadable::Foreign { at } => put_foreign(out, at),
     }
 }
 
-/// The line that says why a store can't be opened. It fails for want of memory alone.
+/// The line that says why a store can't be opened. It fails only when an allocation fails.
 pub fn unreadable_line(alloc: Global, why: &Unreadable) -> Result<Vec<u8>, AllocError>
     ensures { IfOk result (λ line. line.items ≡ line_of why.now) }
 {

@@ -107,11 +107,16 @@ pub slots_within : (slots : Option ℕ) → IfSome slots (λ n. (0 < n) × (n �
 slots_within None is = (omega arith, omega arith)
 slots_within (Some n) is = is
 
+connections_above : (connections : Option ℕ) → IfSome connections (λ n. 0 < n) → 0 < given_or connections 18446744073709551615
+connections_above None is = omega arith
+connections_above (Some n) is = is
+
 mode_within : (serves : Bool) (connections : Option ℕ) (listen : Option (List ℕ)) (m : Mode) → IfSome connections (λ n. 0 < n) → mode_by serves connections listen ≡ Ok m → (n : ℕ) (address : List ℕ) → m ≡ mode.Serve n address → 0 < n
 mode_within false connections listen m fine is n address serve = absurd (cc)
-mode_within true None listen m fine is n address serve = absurd (cc)
-mode_within true (Some c) None m fine is n address serve = absurd (cc)
-mode_within true (Some c) (Some a) m fine is n address serve = let same : c ≡ n = cc in subst (λ (n : ℕ). 0 < n) same fine
+mode_within true connections None m fine is n address serve = absurd (cc)
+mode_within true connections (Some a) m fine is n address serve =
+    let same : given_or connections 18446744073709551615 ≡ n = cc in
+    subst (λ (n : ℕ). 0 < n) same (connections_above connections fine)
 
 -- the settings of options
 pub settings_within : (login store : Option (List ℕ)) (serves : Bool) (g : Given) (s : Settings) → AreWithin g → settings_at login store (mode_by serves g.connections g.listen) g ≡ Ok s

@@ -130,9 +130,8 @@ serves_by name = if bytes_eq name (codes "session") then Some false else (if byt
 
 abbrev pub mode_by : Bool → Option ℕ → Option (List ℕ) → Result Mode UsageFault
 mode_by false connections listen = Ok mode.Session
-mode_by true None listen = Err (usage.Missing option.Connections)
-mode_by true (Some n) None = Err (usage.Missing option.Listen)
-mode_by true (Some n) (Some address) = Ok (mode.Serve n address)
+mode_by true connections None = Err (usage.Missing option.Listen)
+mode_by true connections (Some address) = Ok (mode.Serve (given_or connections 18446744073709551615) address)
 
 -- the folder of tasks in that of the store
 abbrev pub tasks_in : List ℕ → List ℕ

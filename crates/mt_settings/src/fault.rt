@@ -23,7 +23,7 @@ pub enum OptionName {
     Launcher,
     /// `--at`: the one moment of the clock.
     At,
-    /// `--connections`: how many connections are served.
+    /// `--connections`: the number of connections after which a serve ends.
     Connections,
     /// `--listen`: the address that is listened at.
     Listen,

@@ -14,6 +14,9 @@ const USUAL_SLOTS: u64 = 4;
 /// The bytes that a log may have, unless the words say so.
 const USUAL_LIMIT: u64 = 1 << 30;
 
+/// The connections after which a serve ends, unless the words say so: the largest count of 64 bits.
+const USUAL_CONNECTIONS: u64 = 18_446_744_073_709_551_615;
+
 /// What is to be done.
 #[derive(Debug, PartialEq, Eq, Drop)]
 pub enum Mode {
@@ -21,7 +24,7 @@ pub enum Mode {
     Session,
     /// The requests of connections are answered, one connection after another.
     Serve {
-        /// How many connections, 1 to 1,000,000.
+        /// The number of connections after which it ends, 1 to 1,000,000; 18,446,744,073,709,551,615 unless given.
         connections: u64,
         /// The address that is listened at, which is not empty.
         listen: Text,
@@ -135,14 +138,11 @@ fn mode_by(serves: bool, connections: Option<u64>, listen: Option<Text>) -> Resu
     if !serves {
         return Ok(Mode::Session);
     }
-    let Some(connections) = connections else {
-        return Err(UsageFault::Missing(OptionName::Connections));
-    };
     let Some(listen) = listen else {
         return Err(UsageFault::Missing(OptionName::Listen));
     };
     Ok(Mode::Serve {
-        connections,
+        connections: connections.unwrap_or(USUAL_CONNECTIONS),
         listen,
     })
 }
