@@ -35,7 +35,7 @@ Exit status:
   4  cannot write stdout                          12  stdin is not a request, or it is too large
   5  I/O error in the store, or store in use      13  too many requests in one session
   6  tasks could not be started                   14  drill: the store is not empty
-  7  tasks are still running: restart to go on   126  ./mantad: build failed
+  7  some tasks have not finished: restart       126  ./mantad: build failed
 
 Examples:
   mantad serve --login me --store /srv/store --listen localhost:8080
