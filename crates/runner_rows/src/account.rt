@@ -2,6 +2,7 @@
 ghost use Rattle.std.specs.Prelude.{IfOk};
 ghost use Rattle.mt_account.specs.Taken.{IsTaken};
 ghost use Rattle.mt_codec.specs.Spelling.{IsWithinLimits};
+ghost use Rattle.mt_engine.specs.Ready.{RunGoesOn};
 ghost use Rattle.mt_types.specs.Kinds.{kind_of};
 
 use crate::look::put_place;
@@ -9,8 +10,10 @@ use md5::{Digest, Md5};
 use mt_account::is_taken;
 use mt_body::Storing;
 use mt_codec::{DecodeError, decode};
+use mt_disk::Disk;
 use mt_edge::MemSource;
 use mt_engine::Engine;
+use mt_log::Run;
 use mt_rows::{Row, Stop};
 use mt_types::{Body, Command};
 use mt_untold::Untold;
@@ -55,6 +58,29 @@ fn command_of(alloc: Global, row: &Row) -> Result<Command<Body>, Stop>
     }
 }
 
+// The command of a row, behind a body that is stored in a run.
+fn put_command<D: Disk>(
+    alloc: Global,
+    disk: &mut D,
+    engine: &mut Engine,
+    run: Run,
+    row: &Row,
+    out: &mut String,
+) -> Result<(), Stop>
+    requires { RunGoesOn D.seen D.may_leave disk.old engine.old run }
+{
+    let command = command_of(alloc, row)?;
+    let answer = engine.accept(alloc, disk, run, command);
+    write!(out, "{answer:?}; ")?;
+    put_place(engine, out)
+}
+
+// The source of the body of a row.
+fn source_of(alloc: Global, row: &Row) -> Result<MemSource, Stop> {
+    let bytes = Vec::from_slice(alloc, row.bytes(1)?)?;
+    Ok(MemSource::new(alloc, bytes))
+}
+
 /// `add BODY COMMAND [PART TIMES]`: a body, and a command behind it, which may end in a part so often.
 pub fn add(
     alloc: Global,
@@ -66,16 +92,11 @@ pub fn add(
     if engine.is_closed() || engine.is_old() {
         return Err(Stop::NoSuchRow);
     }
-    let command = command_of(alloc, row)?;
-    let mut source = MemSource::new(alloc, Vec::from_slice(alloc, row.bytes(1)?)?);
+    let mut source = source_of(alloc, row)?;
     let mut sum = Md5::new();
     let mut run = engine.begin_run(disk);
     match engine.store_body(alloc, disk, &mut run, &mut source, &mut sum) {
-        Storing::Stored(_) => {
-            let answer = engine.accept(alloc, disk, run, command);
-            write!(out, "{answer:?}; ")?;
-            put_place(engine, out)
-        }
+        Storing::Stored(_) => put_command(alloc, disk, engine, run, row, out),
         other => Ok(write!(out, "{other:?}")?),
     }
 }

@@ -3,7 +3,7 @@ ghost use Rattle.std.specs.Prelude.{◌≡◌, IfOk};
 ghost use Rattle.mt_spawn.specs.Orders.{input_from, run_from};
 ghost use Rattle.runner_rows.specs.Cases.{is_case, raw_in, said_asset, said_of, unknown};
 
-use mt_base::{Bytes, Duplicate, Sequence, Text};
+use mt_base::{Bytes, Duplicate, Sequence, Text, copy_all};
 use mt_rows::{Row, Stop};
 use mt_spawn::{AssetSize, Order, Work};
 use mt_types::{Made, Raw, RecordFile};
@@ -35,6 +35,12 @@ impl Duplicate for Case {
             raw: self.raw.copy(alloc)?,
         })
     }
+}
+
+/// The same cases once more.
+pub fn copied(alloc: Global, cases: &[Case]) -> Result<Cases, AllocError> {
+    let list = copy_all(alloc, cases)?;
+    Ok(Cases { list })
 }
 
 // Whether it is of this command, and of what it reads.
@@ -151,15 +157,20 @@ fn made_at(alloc: Global, row: &Row) -> Result<Made, Stop> {
     })
 }
 
+// What a row has a command leave.
+fn raw_at(alloc: Global, row: &Row) -> Result<Raw, Stop> {
+    Ok(Raw {
+        status: small_at(row, 3)?,
+        stderr: bytes_at(alloc, row, 4)?,
+        made: made_at(alloc, row)?,
+    })
+}
+
 /// The case of `case EXEC READS STATUS ERR OUT [NUMBER FILE]..` or `large EXEC READS STATUS ERR TOTAL`.
 pub fn case_of(alloc: Global, row: &Row) -> Result<Case, Stop> {
     Ok(Case {
         exec: Text::from_str(alloc, row.text(1)?)?,
         reads: bytes_at(alloc, row, 2)?,
-        raw: Raw {
-            status: small_at(row, 3)?,
-            stderr: bytes_at(alloc, row, 4)?,
-            made: made_at(alloc, row)?,
-        },
+        raw: raw_at(alloc, row)?,
     })
 }

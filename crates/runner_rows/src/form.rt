@@ -1,5 +1,5 @@
 //! A crew whose spawner tells what its children end in, or one whose spawner doesn't.
-use crate::cases::Cases;
+use crate::cases::{Case, Cases, copied};
 use crate::crew::Crew;
 use crate::look::put_place;
 use crate::script::put_counts;
@@ -23,19 +23,39 @@ pub enum Form {
     Untold(Crew<Silent>),
 }
 
+// Whether the crew that a row asks for is told.
+fn is_told(row: &Row) -> Result<bool, Stop> {
+    match row.text(1)? {
+        "told" => Ok(true),
+        "untold" => Ok(false),
+        _ => Err(Stop::NoSuchRow),
+    }
+}
+
+// A crew, told or not, whose commands do this by a script.
+fn form_of(
+    alloc: Global,
+    is_told: bool,
+    slots: u64,
+    cases: Cases,
+    script: Script,
+) -> Result<Form, Stop> {
+    let spawner = MemSpawner::new(alloc, cases, script);
+    if is_told {
+        Ok(Form::Told(Crew::new(alloc, slots, spawner)?))
+    } else {
+        let silent = Silent { inner: spawner };
+        Ok(Form::Untold(Crew::new(alloc, slots, silent)?))
+    }
+}
+
 impl Form {
     /// The crew that a row asks for, whose commands do this by a script.
-    pub fn new(alloc: Global, row: &Row, cases: Cases, script: Script) -> Result<Form, Stop> {
+    pub fn new(alloc: Global, row: &Row, cases: &[Case], script: Script) -> Result<Form, Stop> {
+        let is_told = is_told(row)?;
         let slots = row.number(2)?;
-        let spawner = MemSpawner::new(alloc, cases, script);
-        match row.text(1)? {
-            "told" => Ok(Form::Told(Crew::new(alloc, slots, spawner)?)),
-            "untold" => {
-                let silent = Silent { inner: spawner };
-                Ok(Form::Untold(Crew::new(alloc, slots, silent)?))
-            }
-            _ => Err(Stop::NoSuchRow),
-        }
+        let cases = copied(alloc, cases)?;
+        form_of(alloc, is_told, slots, cases, script)
     }
 
     /// One turn, at a moment.
@@ -97,10 +117,55 @@ impl Form {
         Ok(idle)
     }
 
-    // What a turn did, and where the engine then is.
-    fn put_turn(engine: &Engine, turn: Turn, out: &mut String) -> Result<(), Stop> {
-        write!(out, "{turn:?}; ")?;
-        put_place(engine, out)
+    // `turn MOMENT`
+    fn put_turn(
+        &mut self,
+        alloc: Global,
+        disk: &mut Untold,
+        engine: &mut Engine,
+        row: &Row,
+        out: &mut String,
+    ) -> Result<(), Stop> {
+        let turn = self.turn(alloc, disk, engine, row.number(1)?)?;
+        put_turned(engine, turn, out)
+    }
+
+    // `drain MOST MOMENT`
+    fn put_drain(
+        &mut self,
+        alloc: Global,
+        disk: &mut Untold,
+        engine: &mut Engine,
+        row: &Row,
+        out: &mut String,
+    ) -> Result<(), Stop> {
+        let turn = self.drain(alloc, disk, engine, row.number(1)?, row.number(2)?)?;
+        put_turned(engine, turn, out)
+    }
+
+    // `idle TURNS`
+    fn put_idle(
+        &mut self,
+        alloc: Global,
+        disk: &mut Untold,
+        engine: &mut Engine,
+        row: &Row,
+        out: &mut String,
+    ) -> Result<(), Stop> {
+        let idle = self.count_idle(alloc, disk, engine, row.number(1)?)?;
+        Ok(write!(out, "{idle}")?)
+    }
+
+    // The rows that make no turn.
+    fn answer_still(&mut self, row: &Row, out: &mut String) -> Result<(), Stop> {
+        match row.text(0)? {
+            "stop" => {
+                self.stop();
+                Ok(())
+            }
+            "counts" => Ok(self.put_counts(out)?),
+            _ => Err(Stop::NoSuchRow),
+        }
     }
 
     /// Answers a row of turns.
@@ -113,24 +178,16 @@ impl Form {
         out: &mut String,
     ) -> Result<(), Stop> {
         match row.text(0)? {
-            "turn" => {
-                let turn = self.turn(alloc, disk, engine, row.number(1)?)?;
-                Form::put_turn(engine, turn, out)
-            }
-            "drain" => {
-                let turn = self.drain(alloc, disk, engine, row.number(1)?, row.number(2)?)?;
-                Form::put_turn(engine, turn, out)
-            }
-            "idle" => {
-                let idle = self.count_idle(alloc, disk, engine, row.number(1)?)?;
-                Ok(write!(out, "{idle}")?)
-            }
-            "stop" => {
-                self.stop();
-                Ok(())
-            }
-            "counts" => Ok(self.put_counts(out)?),
-            _ => Err(Stop::NoSuchRow),
+            "turn" => self.put_turn(alloc, disk, engine, row, out),
+            "drain" => self.put_drain(alloc, disk, engine, row, out),
+            "idle" => self.put_idle(alloc, disk, engine, row, out),
+            _ => self.answer_still(row, out),
         }
     }
+}
+
+/// Appends what a turn did, and where the engine then is.
+pub fn put_turned(engine: &Engine, turn: Turn, out: &mut String) -> Result<(), Stop> {
+    write!(out, "{turn:?}; ")?;
+    put_place(engine, out)
 }

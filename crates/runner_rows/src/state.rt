@@ -1,16 +1,15 @@
 //! What rows speak of.
 use crate::account::add;
-use crate::cases::{Case, Cases, case_of};
+use crate::cases::{Case, case_of};
 use crate::form::Form;
 use crate::look::{put_object, put_place, put_tasks};
 use crate::script::set_script;
 use crate::stops::put_stopped;
-use mt_base::copy_all;
 use mt_disk::Room;
 use mt_engine::Engine;
 use mt_rows::{Row, Rows, Stop};
 use mt_spawn::Script;
-use mt_untold::{Untold, picks_of};
+use mt_untold::Untold;
 use std::alloc::Global;
 use std::mem;
 
@@ -38,21 +37,19 @@ fn disk_of(alloc: Global, row: &Row) -> Result<Untold, Stop> {
     Ok(Untold::new(alloc, room)?)
 }
 
-// The same cases once more.
-fn copied(alloc: Global, cases: &[Case]) -> Result<Cases, Stop> {
-    Ok(Cases {
-        list: copy_all(alloc, cases)?,
-    })
+// Puts something in the place of what was there.
+fn set<T: Drop>(place: &mut T, new: T) {
+    *place = new;
 }
 
-// `open LIMIT`: the engine of a disk.
-fn open(
+// The engine of a disk, and where it is; or why there is none.
+fn opened(
     alloc: Global,
     disk: &mut Untold,
-    row: &Row,
+    limit: u64,
     out: &mut String,
 ) -> Result<Option<Engine>, Stop> {
-    match Engine::open(alloc, disk, row.number(1)?) {
+    match Engine::open(alloc, disk, limit) {
         Ok(engine) => {
             put_place(&engine, out)?;
             Ok(Some(engine))
@@ -64,28 +61,23 @@ fn open(
     }
 }
 
-// The crew of a row, whose commands do this and whose calls all succeed.
-fn new_crew(alloc: Global, cases: &[Case], row: &Row) -> Result<Form, Stop> {
-    let cases = copied(alloc, cases)?;
-    Form::new(alloc, row, cases, Script::new(alloc))
-}
-
-// `stopped KIND SLOTS LIMIT CALL PICK..`: a turn over a copy of a disk.
-fn stop(
+// `open LIMIT`: the engine of a disk.
+fn open(
     alloc: Global,
-    disk: &Untold,
-    cases: &[Case],
+    disk: &mut Untold,
+    engine: &mut Option<Engine>,
     row: &Row,
     out: &mut String,
 ) -> Result<(), Stop> {
-    let limit = row.number(3)?;
-    let call = row.number(4)?;
-    let picks = picks_of(alloc, row, 5)?;
-    let mut failing = Vec::new(alloc);
-    failing.push(call)?;
-    let crew = new_crew(alloc, cases, row)?;
-    let copy = Untold::over(alloc, disk)?;
-    put_stopped(alloc, copy, limit, failing, crew, &picks, out)
+    let opened = opened(alloc, disk, row.number(1)?, out)?;
+    set(engine, opened);
+    Ok(())
+}
+
+// `fail CALL ..`: the calls of the disk that fail.
+fn fail(alloc: Global, disk: &mut Untold, row: &Row) -> Result<(), Stop> {
+    disk.fail(row.numbers(alloc, 1)?);
+    Ok(())
 }
 
 // A row of the engine that is there.
@@ -121,15 +113,21 @@ impl Turns {
     }
 
     fn begin(&mut self, alloc: Global, row: &Row) -> Result<(), Stop> {
-        *self = Turns::new(alloc);
-        self.disk = Some(disk_of(alloc, row)?);
+        let disk = disk_of(alloc, row)?;
+        set(self, Turns::new(alloc));
+        set(&mut self.disk, Some(disk));
         Ok(())
     }
 
     fn begin_crew(&mut self, alloc: Global, row: &Row) -> Result<(), Stop> {
-        let cases = copied(alloc, &self.cases)?;
         let script = mem::replace(&mut self.script, Script::new(alloc));
-        self.crew = Some(Form::new(alloc, row, cases, script)?);
+        let crew = Form::new(alloc, row, &self.cases, script)?;
+        set(&mut self.crew, Some(crew));
+        Ok(())
+    }
+
+    fn add_case(&mut self, alloc: Global, row: &Row) -> Result<(), Stop> {
+        self.cases.push(case_of(alloc, row)?)?;
         Ok(())
     }
 
@@ -139,16 +137,10 @@ impl Turns {
             return Err(Stop::NoSuchRow);
         };
         match row.text(0)? {
-            "open" => {
-                self.engine = open(alloc, disk, row, out)?;
-                Ok(())
-            }
-            "fail" => {
-                disk.fail(row.numbers(alloc, 1)?);
-                Ok(())
-            }
+            "open" => open(alloc, disk, &mut self.engine, row, out),
+            "fail" => fail(alloc, disk, row),
             "calls" => Ok(write!(out, "{}", disk.made())?),
-            "stopped" => stop(alloc, disk, &self.cases, row, out),
+            "stopped" => put_stopped(alloc, disk, &self.cases, row, out),
             _ => match &mut self.engine {
                 Some(engine) => ask(alloc, disk, engine, &mut self.crew, row, out),
                 None => Err(Stop::NoSuchRow),
@@ -167,10 +159,7 @@ impl Rows for Turns {
     ) -> Result<(), Stop> {
         match row.text(0)? {
             "disk" => self.begin(alloc, row),
-            "case" | "large" => {
-                self.cases.push(case_of(alloc, row)?)?;
-                Ok(())
-            }
+            "case" | "large" => self.add_case(alloc, row),
             "script" => set_script(alloc, &mut self.script, row),
             "crew" => self.begin_crew(alloc, row),
             _ => self.call(alloc, row, out),
