@@ -175,6 +175,19 @@ fn give_up(
     let mut sum = Md5::new();
     let mut run = engine.begin_run(disk);
     let stored = engine.store_body(alloc, disk, &mut run, &mut source, &mut sum);
+    put_given_up(disk, engine, run, &stored, out)
+}
+
+// What became of a body, and of its run, which is given up.
+fn put_given_up<D: Disk>(
+    disk: &mut D,
+    engine: &mut Engine,
+    run: Run,
+    stored: &Storing,
+    out: &mut String,
+) -> Result<(), Stop>
+    requires { RunGoesOn D.seen D.may_leave disk.old engine.old run }
+{
     write!(out, "{stored:?}")?;
     put_dropped(disk, engine, run, out)
 }

@@ -2,6 +2,7 @@
 ghost use Rattle.std.specs.Prelude.{IfOk};
 ghost use Rattle.mt_account.specs.Taken.{IsTaken};
 ghost use Rattle.mt_codec.specs.Spelling.{IsWithinLimits};
+ghost use Rattle.mt_engine.specs.Ready.{RunGoesOn};
 ghost use Rattle.mt_types.specs.Kinds.{kind_of};
 
 use crate::commands::{pattern, put_unstored};
@@ -9,12 +10,14 @@ use md5::{Digest, Md5};
 use mt_account::is_taken;
 use mt_body::Storing;
 use mt_codec::{DecodeError, decode};
+use mt_disk::Disk;
 use mt_edge::MemSource;
 use mt_engine::Engine;
+use mt_log::Run;
 use mt_rows::{Row, Stop};
 use mt_types::{Body, Command, Job};
 use mt_untold::Untold;
-use std::alloc::Global;
+use std::alloc::{AllocError, Global};
 
 /// The most bytes of a body.
 const MOST: u64 = 200_000;
@@ -60,40 +63,50 @@ pub fn command(
     row: &Row,
     out: &mut String,
 ) -> Result<(), Stop> {
-    let source = source_of(alloc, row)?;
-    command_from(alloc, disk, engine, source, command_of(alloc, row)?, out)
-}
-
-// A command behind the bytes of a source.
-fn command_from(
-    alloc: Global,
-    disk: &mut Untold,
-    engine: &mut Engine,
-    mut source: MemSource,
-    command: Command<Body>,
-    out: &mut String,
-) -> Result<(), Stop>
-    requires kind { IsTaken (kind_of command) }
-    requires limits { IsWithinLimits command }
-{
     if engine.is_closed() || engine.is_old() {
         return Err(Stop::NoSuchRow);
     }
+    let mut source = source_of(alloc, row)?;
     let mut sum = Md5::new();
     let mut run = engine.begin_run(disk);
     match engine.store_body(alloc, disk, &mut run, &mut source, &mut sum) {
-        Storing::Stored(_) => {
-            let answer = engine.accept(alloc, disk, run, command);
-            Ok(write!(out, "{answer:?}")?)
-        }
+        Storing::Stored(_) => put_command(alloc, disk, engine, run, row, out),
         other => put_unstored(disk, engine, run, &other, out),
     }
 }
 
+// The command of a row, behind a body that is stored in a run.
+fn put_command<D: Disk>(
+    alloc: Global,
+    disk: &mut D,
+    engine: &mut Engine,
+    run: Run,
+    row: &Row,
+    out: &mut String,
+) -> Result<(), Stop>
+    requires { RunGoesOn D.seen D.may_leave disk.old engine.old run }
+{
+    let command = command_of(alloc, row)?;
+    let answer = engine.accept(alloc, disk, run, command);
+    Ok(write!(out, "{answer:?}")?)
+}
+
+// Whether a command has room behind pieces of so many bytes.
+fn has_room(
+    alloc: Global,
+    engine: &Engine,
+    size: u64,
+    command: Command<Body>,
+) -> Result<bool, AllocError>
+    requires { IsWithinLimits command }
+{
+    engine.has_room(alloc, size, &command)
+}
+
 /// `room BYTES COUNT`: whether there is room for what the bytes spell behind pieces of so many bytes.
 pub fn put_room(alloc: Global, engine: &Engine, row: &Row, out: &mut String) -> Result<(), Stop> {
-    let command = command_of(alloc, row)?;
-    let has_room = engine.has_room(alloc, row.number(2)?, &command)?;
+    let size = row.number(2)?;
+    let has_room = has_room(alloc, engine, size, command_of(alloc, row)?)?;
     Ok(write!(out, "{has_room}")?)
 }
 

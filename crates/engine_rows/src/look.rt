@@ -4,6 +4,8 @@ ghost use Rattle.std.specs.Prelude.{◌≡◌, IfOk, length};
 use crate::commands::path_at;
 use crate::jobs::{put_job, put_room};
 use md5::{Digest, Md5};
+use mt_body::Sent;
+use mt_disk::DiskFault;
 use mt_edge::MemSink;
 use mt_engine::Engine;
 use mt_rows::{Row, Stop, put_escaped};
@@ -97,6 +99,29 @@ fn zeros(alloc: Global, len: usize) -> Result<Vec<u8>, AllocError>
     Ok(bytes)
 }
 
+// Sends that part of a body to a sink.
+fn sent(
+    alloc: Global,
+    disk: &mut Untold,
+    engine: &Engine,
+    sink: &mut MemSink,
+    body: &Body,
+    from: u64,
+    to: u64,
+) -> Result<Sent, Stop> {
+    if engine.is_closed() || from > to || to > body.len || to > MOST {
+        return Err(Stop::NoSuchRow);
+    }
+    let mut buffer = zeros(alloc, 65_536)?;
+    Ok(engine.send_body(disk, sink, body, from, to, buffer.as_mut_slice()))
+}
+
+// How far it was sent, and what the sink has.
+fn put_written(sent: Sent, written: &[u8], out: &mut String) -> Result<(), AllocError> {
+    write!(out, "{sent:?} ")?;
+    put_bytes(out, written)
+}
+
 // `send PATH FROM TO`: that part of the object's body to a sink.
 fn put_sent(
     alloc: Global,
@@ -108,14 +133,15 @@ fn put_sent(
     let from = row.number(2)?;
     let to = row.number(3)?;
     let body = &object_at(alloc, engine, row)?.body;
-    if engine.is_closed() || from > to || to > body.len || to > MOST {
-        return Err(Stop::NoSuchRow);
-    }
-    let mut buffer = zeros(alloc, 65_536)?;
     let mut sink = MemSink::new(alloc, MOST as usize)?;
-    let sent = engine.send_body(disk, &mut sink, body, from, to, buffer.as_mut_slice());
-    write!(out, "{sent:?} ")?;
-    Ok(put_bytes(out, sink.written())?)
+    let sent = sent(alloc, disk, engine, &mut sink, body, from, to)?;
+    Ok(put_written(sent, sink.written(), out)?)
+}
+
+// Whether it was read, and its bytes.
+fn put_read(done: Result<(), DiskFault>, part: &[u8], out: &mut String) -> Result<(), AllocError> {
+    write!(out, "{done:?} ")?;
+    put_bytes(out, part)
 }
 
 // `part PATH AT COUNT`: that part of the object's body into a slice.
@@ -134,8 +160,7 @@ fn put_part(
     }
     let mut part = zeros(alloc, count as usize)?;
     let done = engine.read_body(disk, body, at, part.as_mut_slice());
-    write!(out, "{done:?} ")?;
-    Ok(put_bytes(out, &part)?)
+    Ok(put_read(done, &part, out)?)
 }
 
 /// Answers a row of this module.

@@ -14,10 +14,15 @@ mod look;
 mod state;
 mod stops;
 
-use mt_rows::print_table;
+use mt_rows::{Rows, print_table};
 use state::Engines;
 use std::io;
 
+// Answers the rows of standard input.
+fn run<T: Rows + Drop>(rt: &HostRuntime, mut rows: T) -> io::Result<()> {
+    print_table(rt, &mut rows)
+}
+
 fn main(rt: HostRuntime) -> io::Result<()> {
-    print_table(&rt, &mut Engines::new(rt.alloc()))
+    run(&rt, Engines::new(rt.alloc()))
 }

@@ -46,6 +46,11 @@ pub fn opened(
     }
 }
 
+// Puts something in the place of what was there.
+fn set<T: Drop>(place: &mut Option<T>, new: Option<T>) {
+    *place = new;
+}
+
 // Where the engine is after a row, and how many calls of the disk the row made.
 fn put_after(engine: &Engine, calls: u64, out: &mut String) -> Result<(), Stop> {
     if engine.is_closed() {
@@ -140,8 +145,9 @@ impl Engines {
 
     // An empty disk, and no engine.
     fn begin(&mut self, alloc: Global) -> Result<(), Stop> {
-        self.disk = Some(Untold::new(alloc, ROOM)?);
-        self.engine = None;
+        let disk = Untold::new(alloc, ROOM)?;
+        set(&mut self.disk, Some(disk));
+        set(&mut self.engine, None);
         Ok(())
     }
 
