@@ -42,7 +42,10 @@ pub(crate) fn tell_tasks(rt: &HostRuntime, status: u8, failure: Option<&TaskFaul
             );
         }
         (6, None) => say(rt, "some tasks could not be started or checked"),
-        (7, _) => say(rt, "some tasks have not finished; restart to run them again"),
+        (7, _) => say(
+            rt,
+            "some tasks have not finished; restart to run them again",
+        ),
         (9, _) => say(
             rt,
             "log full: the end of a task or job cannot be recorded; restart with a larger --log-limit, or cancel the job in a session",
