@@ -329,6 +329,13 @@ def first_of_query(head, name, absent):
     return next((value for key, value in pairs if key == name), absent)
 
 
+def losing_refusal(head):
+    """Of a PUT whose body is a part or a coding of what is to be stored, or which would change metadata alone."""
+    refuse("BadRequest", head.first("content-range") is not None)
+    refuse("BadRequest", any(value.replace(" ", "").replace("\t", "").lower() != "identity" for value in head.all("content-encoding")))
+    refuse("InvalidArgument", first_of_query(head, "metadata", None) is not None)
+
+
 class Conditions:
     """RFC 9110, section 13.2.2."""
 
@@ -540,10 +547,12 @@ class Store:
         if kind in ("application/json;type=directory", "application/x-json-stream;type=directory"):
             self.must_be_whole(body)
             self.digest_refusal(head, body.data)
+            losing_refusal(head)
             return self.put_directory(head, path)
         if kind == "application/json;type=link":
             self.must_be_whole(body)
             self.digest_refusal(head, body.data)
+            losing_refusal(head)
             return self.put_link(head, path)
         return self.put_object(head, path, body)
 
@@ -555,6 +564,7 @@ class Store:
     def put_object(self, head, path, body):
         try:
             self.digest_refusal(head, None)
+            losing_refusal(head)
             content_type, durability, metadata = self.marks(head)
             self.put_refusal(path)
             Conditions(head).judge(self.rows.get(path), False)

@@ -387,6 +387,30 @@ def browsers(t):
     t.ask("HEAD /l/stor/a HTTP/1.1\nService-Worker: script")
 
 
+def losing(t):
+    t.note("A PUT of a part, of a coded body, or of metadata alone: it is refused, nothing of its body is kept, and what is there stays.")
+    t.new()
+    t.put("/l/stor/a", b"hello world", TEXT, "m-a: 1")
+    t.directory("/l/stor/d")
+    part, coded = "Content-Range: bytes 3-10/11", "Content-Encoding: gzip"
+    for field in (part, "Content-Range: bytes 0-10/11", "Content-Range:", coded, "Content-Encoding: identity, br", "Content-Encoding:"):
+        t.brief("PUT", "/l/stor/a", b"lo world", field)
+    for target in ("/l/stor/a?metadata=true", "/l/stor/a?metadata", "/l/stor/a?x&metadata=no"):
+        t.brief("PUT", target, b"", "m-a: 2")
+    t.ask("PUT /l/stor/a HTTP/1.1\n" + part, b"lo world")
+    t.ask("PUT /l/stor/a?metadata=true HTTP/1.1\nm-a: 2")
+    t.ask("GET /l/stor/a HTTP/1.1")
+    for field in (part, coded):
+        t.brief("PUT", "/l/stor/e", b"", FOLDER, field)
+        t.brief("PUT", "/l/stor/e", b"", LINK, "Location: /l/stor/a", field)
+    t.brief("PUT", "/l/stor/a?metadata=true", b"", LINK, "Location: /l/stor/d")
+    t.brief("PUT", "/l/stor/d?metadata=true", b"", FOLDER)
+    t.brief("GET", "/l/stor")
+    t.brief("PUT", "/l/stor/a", b"again", "Content-Encoding: Identity", "Range: bytes=3-")
+    t.brief("GET", "/l/stor/a?metadata=true", b"", part, coded)
+    t.brief("DELETE", "/l/stor/a?metadata=true", b"", part, coded)
+
+
 def two_at_once(t):
     t.note("Two refusals at once, of a put of an object: the one that stands first in the order is answered, and nothing of the body is kept")
     print("# but where its digest alone refuses it.")
@@ -398,7 +422,7 @@ def two_at_once(t):
         "root": ("/l/stor", []), "parent": ("/l/stor/none/x", []), "object": ("/l/stor/o/x", []), "directory": ("/l/stor/d", []),
         "digest": (None, ["Content-MD5: x"]), "other digest": (None, ["Content-MD5: 1B2M2Y8AsgTpgAmY7PhCfg=="]), "type": (None, ["Content-Type: \x7f"[:-1] + "a\x80b"]),
         "metadata": (None, ["m-a: \x80"]), "level": (None, ["Durability-Level: 7"]), "size": (None, ["m-z: " + "z" * 4_094]),
-        "condition": (None, ["If-Match: x"]), "method": ("POST", []), "origin": (None, ["Origin: null"]),
+        "condition": (None, ["If-Match: x"]), "part": (None, ["Content-Range: bytes 3-10/11"]), "coding": (None, ["Content-Encoding: gzip"]), "method": ("POST", []), "origin": (None, ["Origin: null"]),
     }
     def pair(one, two):
         method, target, fields = "PUT", None, []
@@ -738,7 +762,7 @@ def main():
     print("# request in a row, METHOD TARGET BODY FIELD .., and the status with what the reply holds, or the part of an object that it names.")
     print("# `post`: the same of a line that is posted so many times.")
     t = Table()
-    for part in (objects, tree, pages, conditions, ranges, digests, targets, browsers, two_at_once, space, endings, jobs, listings, job_targets, job_order, job_bodies, faults, job_faults):
+    for part in (objects, tree, pages, conditions, ranges, digests, targets, browsers, losing, two_at_once, space, endings, jobs, listings, job_targets, job_order, job_bodies, faults, job_faults):
         part(t)
 
 

@@ -1,14 +1,21 @@
 -- Each head asks for what its words ask for.
-use Rattle.std.proofs.Common.{◌≡◌, ℕ, ◌<◌, ◌^◌, true, List, [], ◌∷◌, ◌++◌, Option, Some, None, IfSome, IsUtf8, Result, codes, refl, ap, ◌∙◌}
+use Rattle.std.proofs.Common.{◌≡◌, ℕ, ◌<◌, ◌^◌, Bool, true, List, [], ◌∷◌, ◌++◌, Option, Some, None, IfSome, IsUtf8, Result, codes, refl, ap, ◌∙◌}
+use Rattle.std.specs.Option.{option_or}
+use Rattle.mt_error.specs.declared.code.ErrorCode.{ErrorCode}
+use Rattle.mt_error.specs.declared.code.ErrorCode.TheVariants as error
 use Rattle.mt_path.specs.AccountPath.{AccountPath, IsLogin, IsPath, root_of}
+use Rattle.mt_path.specs.Names.{path_of_target}
 use Rattle.mt_path.specs.declared.area.Area.TheVariants.{Jobs}
 use Rattle.mt_path.specs.declared.error.PathError.{PathError}
 use Rattle.mt_types.specs.Limits.{is_plain_text}
+use Rattle.mt_request.specs.Order.{refuse_if}
 use Rattle.mt_request.specs.Puts.{link_to, object_late, unless}
 use Rattle.mt_request.specs.Query.{stand_in}
 use Rattle.mt_request.specs.Requests.{asked_by, asked_of}
 use Rattle.mt_request.specs.Routes.{route_of}
 use Rattle.mt_request.specs.Target.{path_or, path_refusal}
+use Rattle.mt_request.specs.declared.asked.Asked.{Asked}
+use Rattle.mt_request.specs.declared.asked.Wanted.{Wanted}
 use Rattle.mt_request.specs.declared.asked.Wanted.TheVariants as wanted
 use Rattle.mt_request.specs.declared.digest.Wish.TheVariants as wish
 use Rattle.mt_request.specs.declared.route.Route.TheVariants as route
@@ -23,7 +30,7 @@ use Rattle.mt_ask.proofs.Targets.{queried_target_read, target_read}
 use Rattle.mt_asked.specs.Laws.{AsksAreUnderstood}
 use Rattle.mt_asked.specs.Understood.{IsPageAsk, asked_for, has_route, head_for, is_changeable, is_shown, page_from, shows, wanted_by}
 use Rattle.mt_asked.proofs.LivePlaces.{at_cancel, at_end, at_in, at_jobs, at_out, at_rows, at_status, cancel_path, end_path, in_path, jobs_path, out_path, status_path}
-use Rattle.mt_asked.proofs.Looks.{asked_on, bare_page, bare_path, bare_state, get_head, get_row, words}
+use Rattle.mt_asked.proofs.Looks.{asked_on, bare_metadata, bare_page, bare_path, bare_state, get_head, get_row, words}
 
 -- the ask is understood, whatever else the words say
 abbrev Understood : Ask → Option PageAsk → Type 0
@@ -60,14 +67,20 @@ get_understood p page is shown url login len named =
 
 -- ---- what is changed
 
+-- what a PUT asks for, by whether its query names metadata
+abbrev put_with : Option ErrorCode → Wanted → Bool → Asked
+put_with late asked named = asked_by None wish.None (unless (option_or (refuse_if named error.InvalidArgument) late) asked)
+
 put_understood : (p : AccountPath) (page : Option PageAsk) → IsPath p → is_changeable p ≡ true → Understood (asks.Put p) page
 unfolding object_late is_plain_text
 put_understood p page is outside url login len named =
     asked_on login (head_for (words url login (asks.Put p)) page len) p route.Rows (bare_path login p named is) (at_rows p outside)
+    ∙ ap (put_with None (wanted_by (asks.Put p) page)) (bare_metadata login p)
 
 make_understood : (p : AccountPath) (page : Option PageAsk) → IsPath p → is_changeable p ≡ true → Understood (asks.MakeDirectory p) page
 make_understood p page is outside url login len named =
     asked_on login (head_for (words url login (asks.MakeDirectory p)) page len) p route.Rows (bare_path login p named is) (at_rows p outside)
+    ∙ ap (put_with None (wanted_by (asks.MakeDirectory p) page)) (bare_metadata login p)
 
 remove_understood : (p : AccountPath) (page : Option PageAsk) → IsPath p → is_changeable p ≡ true → Understood (asks.Remove p) page
 remove_understood p page is outside url login len named =
@@ -76,6 +89,8 @@ remove_understood p page is outside url login len named =
 link_understood : (source p : AccountPath) (page : Option PageAsk) → IsPath source → IsPath p → is_changeable p ≡ true → Understood (asks.Link source p) page
 link_understood source p page from is outside url login len named =
     asked_on login (head_for (words url login (asks.Link source p)) page len) p route.Rows (bare_path login p named is) (at_rows p outside)
+    ∙ ap (put_with (path_refusal (path_or (path_of_target login (target_text login source)))) (wanted.Rows (link_to p (path_or (path_of_target login (target_text login source))))))
+    (bare_metadata login p)
     ∙ ap (λ (x : Result AccountPath PathError). asked_by None wish.None (unless (path_refusal (path_or x)) (wanted.Rows (link_to p (path_or x)))))
     (target_read login source named from)
 

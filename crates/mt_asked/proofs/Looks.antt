@@ -1,5 +1,5 @@
 -- What a GET of a row asks for, and the page that a target without a query asks for.
-use Rattle.std.proofs.Common.{◌≡◌, ◌≢◌, ℕ, true, List, [], ◌∷◌, ◌++◌, length, take, nat_lt, ◌==◌, All, Option, Some, None, Result, Ok, codes, refl, sym, ap, ◌∙◌, arith, append-nil}
+use Rattle.std.proofs.Common.{◌≡◌, ◌≢◌, ℕ, true, false, List, [], ◌∷◌, ◌++◌, length, take, nat_lt, ◌==◌, All, Option, Some, None, Result, Ok, codes, refl, sym, ap, ◌∙◌, arith, append-nil}
 use Rattle.std.specs.List.{position_or_len}
 use Rattle.std.proofs.lemmas.Bool.{cond-false, le-ltb}
 use Rattle.std.proofs.lemmas.List.Elements.{All-weaker}
@@ -18,7 +18,7 @@ use Rattle.mt_request.specs.Digest.{wish_of}
 use Rattle.mt_request.specs.Metadata.{is_none}
 use Rattle.mt_request.specs.Order.{refuse_if}
 use Rattle.mt_request.specs.Puts.{unless}
-use Rattle.mt_request.specs.Query.{behind, page_of, query_of, stand_in}
+use Rattle.mt_request.specs.Query.{behind, names_metadata, page_of, query_of, stand_in}
 use Rattle.mt_request.specs.Requests.{asked_at, asked_by, asked_of, late_at, listed, wanted_at}
 use Rattle.mt_request.specs.Routes.{route_of}
 use Rattle.mt_request.specs.Target.{early_at, path_or}
@@ -98,6 +98,13 @@ page_unsaid = refl
 state_unsaid : stand_in [] ≡ Some None
 unfolding stand_in raw_pairs split
 state_unsaid = refl
+
+metadata_unnamed : names_metadata [] ≡ false
+unfolding names_metadata raw_pairs split
+metadata_unnamed = refl
+
+pub bare_metadata : (login : List ℕ) (p : AccountPath) → names_metadata (query_of (target_text login p ++ [])) ≡ false
+bare_metadata login p = ap names_metadata (bare_query login p) ∙ metadata_unnamed
 
 pub bare_page : (login : List ℕ) (p : AccountPath) → page_of (query_of (target_text login p ++ [])) ≡ Some (page_from None)
 bare_page login p = ap page_of (bare_query login p) ∙ page_unsaid

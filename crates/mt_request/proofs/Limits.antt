@@ -3,6 +3,7 @@ use Rattle.std.proofs.Common.{◌≡◌, ℕ, ◌+◌, ◌≤◌, Bool, true, fa
 use Rattle.std.specs.Prelude.{not, ◌&&◌, nat_le, IsTrue, IfSome, codes, bytes_eq, filter, fold, option_and_then, if◌then◌else◌}
 use Rattle.std.specs.Cmp.Lexicographic.{nat_list_cmp_total, slice_cmp}
 use Rattle.std.specs.List.{AllByRecursion, list_all}
+use Rattle.std.specs.Option.{option_or}
 use Rattle.std.specs.Ordering.{is_gt, is_lt, nat_cmp, ordering_reverse}
 use Rattle.std.specs.declared.cmp.Ordering.{Ordering}
 use Rattle.std.specs.declared.cmp.Ordering.TheVariants.{Less, Equal, Greater}
@@ -22,7 +23,7 @@ use Rattle.mt_request.specs.Kind.{type_of}
 use Rattle.mt_request.specs.Laws.{FitsAsked, FitsDoing}
 use Rattle.mt_request.specs.Metadata.{is_metadata_field, is_metadata_fine, is_none, level_in, level_of, metadata_of}
 use Rattle.mt_request.specs.Order.{first_of, refuse_if}
-use Rattle.mt_request.specs.Puts.{doing_by, kind_in, late_by, link_doing, link_to, object_doing, object_late, unless}
+use Rattle.mt_request.specs.Puts.{doing_by, kind_in, late_by, link_doing, link_to, losing_refusal, object_doing, object_late, unless}
 use Rattle.mt_request.specs.Query.{query_of, stand_in}
 use Rattle.mt_request.specs.Requests.{asked_at, asked_by, asked_late, asked_of, is_post, late_at, listed, look_at, wanted_at}
 use Rattle.mt_request.specs.Routes.{route_of}
@@ -184,14 +185,20 @@ put_fits kind.Object p login fields within none = object_fits p fields within no
 put_fits kind.Directory p login fields within none = tt
 put_fits kind.Link p login fields within none = link_fits p login (first_value (codes "location") fields)
 
+-- where neither of two refuses, the second doesn't
+neither : (first second : Option ErrorCode) → option_or first second ≡ None → second ≡ None
+neither None second none = none
+neither (Some code) second none = cc
+
 other_fits : (b : Bool) (p : AccountPath) (head : Head) → FitsDoing (cond b (doing.Remove p) (look_at p head))
 other_fits true p head = tt
 other_fits false p head = tt
 
 method_fits : (b d : Bool) (p : AccountPath) (login : List ℕ) (head : Head) → length head.fields ≤ 100
-    → cond b (late_by (kind_in head.fields) login head.fields) None ≡ None
+    → cond b (option_or (losing_refusal head) (late_by (kind_in head.fields) login head.fields)) None ≡ None
     → FitsDoing (cond b (doing_by (kind_in head.fields) p login head.fields) (cond d (doing.Remove p) (look_at p head)))
-method_fits true d p login head within none = put_fits (kind_in head.fields) p login head.fields within none
+method_fits true d p login head within none = put_fits (kind_in head.fields) p login head.fields within
+    (neither (losing_refusal head) (late_by (kind_in head.fields) login head.fields) none)
 method_fits false d p login head within none = other_fits d p head
 
 -- what is to be done with objects and directories is within limits

@@ -1,15 +1,18 @@
 -- What a PUT asks for, and the refusals that stand behind the digest of its body.
-use Rattle.std.specs.Prelude.{ℕ, not, nat_le, List, [], ◌∷◌, codes, Option, Some, None, Result, Ok, Err}
-use Rattle.std.specs.List.{list_all}
+use Rattle.std.specs.Prelude.{ℕ, Bool, not, ◌||◌, ◌&&◌, nat_le, List, [], ◌∷◌, codes, bytes_eq, Option, Some, None, Result, Ok, Err}
+use Rattle.std.specs.List.{list_all, list_any}
+use Rattle.std.specs.Option.{option_or}
 use Rattle.mt_error.specs.declared.code.ErrorCode.{ErrorCode}
 use Rattle.mt_error.specs.declared.code.ErrorCode.TheVariants as error
+use Rattle.mt_http.specs.declared.message.Head.{Head}
 use Rattle.mt_path.specs.AccountPath.{AccountPath}
-use Rattle.mt_types.specs.Fields.{first_value}
+use Rattle.mt_types.specs.Fields.{first_value, is_named}
 use Rattle.mt_types.specs.Limits.{is_content_type, metadata_size}
 use Rattle.mt_types.specs.declared.object.Field.{Field}
-use Rattle.mt_request.specs.Kind.{kind_of, type_of}
+use Rattle.mt_request.specs.Kind.{bare, kind_of, type_of}
 use Rattle.mt_request.specs.Metadata.{is_metadata_fine, is_none, level_in, level_of, metadata_of}
 use Rattle.mt_request.specs.Order.{first_of, refuse_if}
+use Rattle.mt_request.specs.Query.{names_metadata, query_of}
 use Rattle.mt_request.specs.Target.{path_read, path_refusal}
 use Rattle.mt_request.specs.declared.kind.Kind.{Kind}
 use Rattle.mt_request.specs.declared.kind.Kind.TheVariants as kind
@@ -20,6 +23,19 @@ use Rattle.mt_request.specs.declared.request.Doing.TheVariants as doing
 abbrev pub unless : {A : Type 0} → Option ErrorCode → A → Result A ErrorCode
 unless None asked = Ok asked
 unless (Some code) asked = Err code
+
+-- a Content-Encoding that says anything but `identity` (RFC 9110, section 8.4)
+abbrev pub is_coding : Field → Bool
+is_coding f = is_named (codes "content-encoding") f && not (bytes_eq (bare f.value) (codes "identity"))
+
+-- the body is not what is to be stored: a part of it (RFC 9110, section 14.4), or a coding of it, which nobody would be told of
+abbrev pub is_other_body : List Field → Bool
+is_other_body fields = list_any (is_named (codes "content-range")) fields || list_any is_coding fields
+
+-- what would be lost by a put, of whatever: such a body in the place of all, or the body where metadata alone are to change
+abbrev pub losing_refusal : Head → Option ErrorCode
+losing_refusal head =
+    option_or (refuse_if (is_other_body head.fields) error.BadRequest) (refuse_if (names_metadata (query_of head.target)) error.InvalidArgument)
 
 -- the refusals of an object: its content type, its metadata, its durability level, the size of its metadata
 unfoldable pub object_late : List Field → Option ErrorCode

@@ -1,5 +1,6 @@
 -- The query of a request target: what stands behind its first `?`, pairs of names and values (WHATWG URL, section 5.1).
-use Rattle.std.specs.Prelude.{ℕ, ◌+◌, nat_le, ◌&&◌, ◌==◌, List, [], codes, drop, find, position, bytes_eq, option_map, Option, Some, None, if◌then◌else◌}
+use Rattle.std.specs.Prelude.{ℕ, Bool, ◌+◌, nat_le, ◌&&◌, ◌==◌, List, [], codes, drop, find, position, bytes_eq, option_map, Option, Some, None, if◌then◌else◌}
+use Rattle.std.specs.Option.{is_some}
 use Rattle.std.specs.Str.Lossy.{utf8_lossy}
 use Rattle.form_urlencoded.specs.Form.{raw_pairs, decode}
 use Rattle.mt_bytes.specs.Decimals.{decimal_number}
@@ -42,6 +43,10 @@ marker_in (Some text) = text
 -- the page that a query asks for; none where its limit is none
 unfoldable pub page_of : List ℕ → Option Page
 page_of query = option_map (λ limit. record { marker = marker_in (first_pair (codes "marker") query); limit = limit }) (limit_in (first_pair (codes "limit") query))
+
+-- a query names `metadata`, whatever its value: it asks to change metadata alone
+unfoldable pub names_metadata : List ℕ → Bool
+names_metadata query = is_some (first_pair (codes "metadata") query)
 
 -- how jobs are to stand, by its name
 abbrev pub stand_named : List ℕ → Option JobStand

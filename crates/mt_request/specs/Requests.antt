@@ -1,5 +1,6 @@
 -- What a head asks for, and its first refusal.
 use Rattle.std.specs.Prelude.{ℕ, Bool, true, false, List, [], ◌∷◌, codes, bytes_eq, Option, Some, None, option_map, Result, Ok, Err, if◌then◌else◌}
+use Rattle.std.specs.Option.{option_or}
 use Rattle.mt_cond.specs.Range.{range_in}
 use Rattle.mt_cond.specs.declared.range.Range.{Range}
 use Rattle.mt_error.specs.Refusals.{plain}
@@ -11,7 +12,7 @@ use Rattle.mt_path.specs.AccountPath.{AccountPath}
 use Rattle.mt_request.specs.Digest.{digest_refusal, wish_of}
 use Rattle.mt_request.specs.Metadata.{is_none}
 use Rattle.mt_request.specs.Order.{first_of, refuse_if}
-use Rattle.mt_request.specs.Puts.{doing_by, kind_in, late_by, unless}
+use Rattle.mt_request.specs.Puts.{doing_by, kind_in, late_by, losing_refusal, unless}
 use Rattle.mt_request.specs.Query.{page_of, query_of, stand_in}
 use Rattle.mt_request.specs.Routes.{route_of}
 use Rattle.mt_request.specs.Target.{early_at, origin_refusal, path_read, path_refusal, refusal_at}
@@ -40,9 +41,9 @@ is_post head = bytes_eq head.method (codes "POST")
 abbrev pub state_refusal : Head → Option ErrorCode
 state_refusal head = if is_post head then None else refuse_if (is_none (stand_in (query_of head.target))) error.BadRequest
 
--- of a PUT what it makes, and of the folder of jobs its `state`
+-- of a PUT what it would lose and what it makes, and of the folder of jobs its `state`
 abbrev pub late_at : Route → List ℕ → Head → Option ErrorCode
-late_at route.Rows login head = if bytes_eq head.method (codes "PUT") then late_by (kind_in head.fields) login head.fields else None
+late_at route.Rows login head = if bytes_eq head.method (codes "PUT") then option_or (losing_refusal head) (late_by (kind_in head.fields) login head.fields) else None
 late_at route.Jobs login head = state_refusal head
 late_at route.JobRow login head = None
 late_at (route.Live job text) login head = None
@@ -57,7 +58,7 @@ late_of (Ok p) login head = late_at (route_of p) login head
 late_of (Err code) login head = None
 
 -- THE ORDER OF REFUSALS, by the head alone and the digest of the body, where it is known: the target's form, its login and its
--- area; no such route, the method; the pages of browsers; the digest; then of an object its content type, metadata, level and the metadata's
+-- area; no such route, the method; the pages of browsers; the digest; then of a PUT a body that is a part or a coding, and `metadata` in its query; of an object its content type, metadata, level and the metadata's
 -- size, of a link its Location, of the folder of jobs its `state`
 abbrev pub refusal_of_head : List ℕ → Head → Option (List ℕ) → Option Refused
 refusal_of_head login head digest = first_of (

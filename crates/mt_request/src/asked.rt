@@ -8,7 +8,7 @@ ghost use Rattle.mt_request.specs.declared.route.Route.TheVariants as Route;
 
 use crate::digest::{Wish, digest_refusal, wish_of};
 use crate::jobs::JobDoing;
-use crate::put::put_of;
+use crate::put::{losing_refusal, put_of};
 use crate::query::{page_of, query_of, stand_in};
 use crate::request::{Doing, Request};
 use crate::route::{Route, route_of};
@@ -124,6 +124,9 @@ fn ask_rows(
     ensures { IfOk result (λ asks. asks ≡ unless (late_at Route.Rows login.now head.now) (wanted_at Route.Rows path login.now head.now)) }
 {
     if head.method.as_str() == "PUT" {
+        if let Some(code) = losing_refusal(alloc, head)? {
+            return Ok(Err(code));
+        }
         let asks = put_of(alloc, login, path, head.fields.as_slice())?;
         return Ok(rows_of(asks));
     }

@@ -17,8 +17,8 @@ pub enum Kind {
     Link,
 }
 
-// A value without its spaces and tabs, in lower case.
-fn bare(alloc: Global, value: &[u8]) -> Result<Vec<u8>, AllocError>
+/// A value without its spaces and tabs, in lower case.
+pub fn bare(alloc: Global, value: &[u8]) -> Result<Vec<u8>, AllocError>
     ensures { IfOk result (λ v. v.items ≡ bare value.now) }
 {
     let mut out = Vec::new(alloc);

@@ -1,18 +1,23 @@
 //! What a PUT asks for, and the refusals that stand behind the digest of its body.
 ghost use Rattle.std.specs.Prelude.{◌≡◌, true, IfOk};
+ghost use Rattle.std.specs.List.{list_any};
 ghost use Rattle.std.specs.Option.{option_copied};
 ghost use Rattle.mt_types.specs.Limits.{is_content_type};
 ghost use Rattle.mt_request.specs.Kind.{type_of};
-ghost use Rattle.mt_request.specs.Puts.{link_doing, location_refusal, object_doing, object_late, put_by, unless};
+ghost use Rattle.mt_request.specs.Puts.{is_coding, is_other_body, link_doing, location_refusal, losing_refusal, object_doing, object_late, put_by, unless};
 
-use crate::kind::{Kind, kind_of};
+use crate::kind::{Kind, bare, kind_of};
 use crate::metadata::{are_fine, level_of, metadata_of};
+use crate::query::{names_metadata, query_of};
 use crate::request::Doing;
 use crate::target::read_path;
 use mt_base::{Sequence, Text};
 use mt_error::ErrorCode;
+use mt_http::Head;
 use mt_path::Path;
-use mt_types::{Field, LARGEST_METADATA, first_value, is_content_type, is_metadata_within};
+use mt_types::{
+    Field, LARGEST_METADATA, first_value, has_field, is_content_type, is_metadata_within, is_named,
+};
 use std::alloc::{AllocError, Global};
 
 /// The type of an object that none is given for.
@@ -87,6 +92,51 @@ fn put_link(
         Ok(source) => Ok(Ok(Doing::PutLink { path, source })),
         Err(code) => Ok(Err(code)),
     }
+}
+
+// Whether a Content-Encoding says anything but `identity`.
+fn is_coding(alloc: Global, field: &Field) -> Result<bool, AllocError>
+    ensures { IfOk result (λ coding. coding ≡ is_coding field.now) }
+{
+    if !is_named(field, "content-encoding") {
+        return Ok(false);
+    }
+    Ok(bare(alloc, field.value.as_slice())?.as_slice() != b"identity".as_slice())
+}
+
+// Whether a body is coded.
+fn is_coded(alloc: Global, fields: &[Field]) -> Result<bool, AllocError>
+    ensures { IfOk result (λ coded. coded ≡ list_any is_coding fields.now) }
+{
+    for field in fields {
+        if is_coding(alloc, field)? {
+            return Ok(true);
+        }
+    }
+    Ok(false)
+}
+
+// Whether a body is not what is to be stored, but a part of it or a coding.
+fn is_other_body(alloc: Global, fields: &[Field]) -> Result<bool, AllocError>
+    ensures { IfOk result (λ other. other ≡ is_other_body fields.now) }
+{
+    if has_field(fields, "content-range") {
+        return Ok(true);
+    }
+    is_coded(alloc, fields)
+}
+
+/// Why a PUT is refused that would lose what is there, or what its body is.
+pub fn losing_refusal(alloc: Global, head: &Head) -> Result<Option<ErrorCode>, AllocError>
+    ensures { IfOk result (λ refusal. refusal ≡ losing_refusal head.now) }
+{
+    if is_other_body(alloc, head.fields.as_slice())? {
+        return Ok(Some(ErrorCode::BadRequest));
+    }
+    if names_metadata(alloc, query_of(head.target.as_slice()))? {
+        return Ok(Some(ErrorCode::InvalidArgument));
+    }
+    Ok(None)
 }
 
 /// What a PUT asks for, or its first refusal behind the digest: of an object its content type, its metadata, its durability

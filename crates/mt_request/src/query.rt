@@ -1,7 +1,7 @@
 //! The query of a request target.
 ghost use Rattle.std.specs.Prelude.{◌≡◌, IfOk};
 ghost use Rattle.std.specs.Option.{option_copied};
-ghost use Rattle.mt_request.specs.Query.{first_pair, limit_in, page_of, query_of, stand_in, stand_named};
+ghost use Rattle.mt_request.specs.Query.{first_pair, limit_in, names_metadata, page_of, query_of, stand_in, stand_named};
 
 use mt_base::{Bytes, Text};
 use mt_bytes::read_decimal;
@@ -74,6 +74,14 @@ pub fn page_of(alloc: Global, query: &[u8]) -> Result<Option<Page>, AllocError>
         None => Bytes::from_vec(Vec::new(alloc)),
     };
     Ok(Some(Page { marker, limit }))
+}
+
+/// Whether a query names `metadata`, whatever its value: it asks to change metadata alone.
+#[tactic(auto, unfolding(crate::specs::Query::names_metadata))]
+pub fn names_metadata(alloc: Global, query: &[u8]) -> Result<bool, AllocError>
+    ensures { IfOk result (λ named. named ≡ names_metadata query.now) }
+{
+    Ok(first_pair(alloc, "metadata", query)?.is_some())
 }
 
 // How jobs are to stand, by its name.
