@@ -1,22 +1,30 @@
 //! The folder of a store, which belongs to one program at a time.
 use crate::failure::{Failure, FileCall, name_of};
 use crate::progress::Progress;
+use libc::{POSIX_FADV_DONTNEED, posix_fadvise};
 use mt_disk::FileNo;
 use std::alloc::{AllocError, Global};
 use std::fs::{self, File, OpenOptions, TryLockError};
 use std::io;
 use std::io::{Eprint, ErrorKind};
+use std::os::fd::AsRawFd;
 use std::os::unix::fs::FileExt;
 use std::rt::Files;
 
 /// A log without a record, as it is when it was just made.
 const EMPTY_LOG: [u8; 9] = *b"MTLOG002\0";
 
-// An open file. Its length is kept, so that a write behind the end is told without a call of the system.
+/// The device is asked to begin with what was written each time that so many bytes more were, so that a sync finds little left to do.
+const STARTED: u64 = 8_388_608;
+
+// An open file. Its length is kept, so that a write behind the end is told without a call of the system. What the last writes wrote
+// one behind the other, without what the device was asked to begin with, is from one place to another.
 #[derive(Drop)]
 pub(crate) struct OpenFile {
     file: File,
     len: Option<u64>,
+    from: u64,
+    to: u64,
 }
 
 impl OpenFile {
@@ -48,7 +56,23 @@ impl OpenFile {
         self.file.write_all_at(piece, at)?;
         let end = at.saturating_add(piece.len() as u64);
         self.len = len.map(|len| len.max(end));
+        self.start(at, end);
         Ok(())
+    }
+
+    // Asks the device to begin with what the last writes wrote, where that is much: a hint, which waits for nothing and whose answer is
+    // not needed (POSIX, posix_fadvise).
+    fn start(&mut self, at: u64, end: u64) {
+        if at != self.to {
+            self.from = at;
+        }
+        self.to = end;
+        let size = end.saturating_sub(self.from);
+        if size >= STARTED {
+            let file = self.file.as_raw_fd();
+            posix_fadvise(file, self.from as i64, size as i64, POSIX_FADV_DONTNEED);
+            self.from = end;
+        }
     }
 
     pub(crate) fn cut(&mut self, to: u64) -> io::Result<()> {
@@ -272,7 +296,12 @@ impl<R: Files<File = File> + Eprint> Folder<R> {
         let mut options = OpenOptions::new();
         options.read(true).write(true).create(true);
         match options.open(&self.rt, self.path_of(file)) {
-            Ok(file) => Ok(OpenFile { file, len: None }),
+            Ok(file) => Ok(OpenFile {
+                file,
+                len: None,
+                from: 0,
+                to: 0,
+            }),
             Err(error) => Err(Failure::of_file(FileCall::Open, file, error)),
         }
     }

@@ -20,7 +20,7 @@ case $marlin_helper in /*) ;; */*) marlin_helper=$(pwd)/$marlin_helper ;; esac
 cd "$1" || exit 125
 exec 2>err
 marlin_exec=$2; marlin_init=$3; marlin_login=$5
-marlin_dir=$(pwd)
+marlin_dir=$PWD
 MANTA_JOB_ID=$6; MANTA_PHASE=$7; MANTA_OUTPUT_BASE=$8
 MANTA_INPUT_FILE=$marlin_dir/input; MANTA_ASSETS=$marlin_dir/assets; LC_ALL=C
 export MANTA_JOB_ID MANTA_PHASE MANTA_OUTPUT_BASE MANTA_INPUT_FILE MANTA_ASSETS LC_ALL
