@@ -69,8 +69,9 @@ impl OpenFile {
         self.to = end;
         let size = end.saturating_sub(self.from);
         if size >= STARTED {
-            let file = self.file.as_raw_fd();
-            posix_fadvise(file, self.from as i64, size as i64, POSIX_FADV_DONTNEED);
+            if let (Ok(from), Ok(size)) = (i64::try_from(self.from), i64::try_from(size)) {
+                let _ = posix_fadvise(self.file.as_raw_fd(), from, size, POSIX_FADV_DONTNEED);
+            }
             self.from = end;
         }
     }
