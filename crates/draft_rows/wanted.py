@@ -202,12 +202,22 @@ class Session:
         return ":" + "".join(" " + whole(p) for p in found)
 
     def told(self, call):
-        """What a call of a draft answers. One at which the disk fails ends it."""
+        """What a call answers. One at which the disk fails ends the session."""
         try:
             return call()
         except Fault:
-            self.is_over, self.draft = True, None
+            self.is_over = True
             return None
+
+    def emptied(self):
+        """The file that the log isn't in is emptied, as far as the disk lets it."""
+        other, self.draft = OTHER[self.file], None
+        self.disk.cut(other, 0)
+        self.disk.sync(other)
+        return "Ok"
+
+    def abandon(self):
+        return self.told(self.emptied) or "Err(DiskFault)"
 
     def begin(self, limit):
         return self.told(lambda: self.begun(limit)) or "Err(Disk)"
@@ -236,7 +246,7 @@ class Session:
         if place + size + 1 > self.limit:
             return "Err(Full)"
         self.told(add)
-        return f"Ok({place})" if not self.is_over else "Err(Disk)"
+        return f"Ok({place})" if not self.is_over else f"Err(Disk), abandoned {self.abandon()}"
 
     def hold(self, data):
         self.held += data
@@ -252,13 +262,15 @@ class Session:
 
     def finished(self):
         disk, draft, file = self.disk, self.draft, self.file
-        self.draft = self.file = None
         size = self.written + len(self.held) + 1
-        self.draft = draft
-        self.pour()
-        self.draft = None
-        disk.write(draft, self.written, b"\0")
-        disk.sync(draft)
+        try:
+            self.pour()
+            disk.write(draft, self.written, b"\0")
+            disk.sync(draft)
+        except Fault:
+            self.abandon()
+            raise
+        self.draft = self.file = None
         self.name(b"\1" if draft == "one" else b"\2")
         disk.cut(file, 0)
         disk.sync(file)
@@ -450,7 +462,7 @@ def pieces(t):
 def faults(t):
     say("A fault of the disk ends the draft, and the log is as it was: one of the write of what is held, in an addition and in a copy, and one",
         "of the read of each piece.")
-    t.disk(b"\1", log_of([]), b"", 9, 36, 47, 59)
+    t.disk(b"\1", log_of([]), b"", 9, 38, 51, 65)
     t.do("open")
     t.do("begin", 100000)
     t.add_many(40000, "a")
@@ -466,6 +478,42 @@ def faults(t):
         t.do("copy", 8, 66042)
         row("calls", t.it.disk.calls)
     t.do("open")
+
+
+def abandoned(t):
+    say("A draft that is given up is emptied, by two calls of the disk; the log is as it was.")
+    t.disk(b"\1", log_of([b"one"]), b"left of another")
+    t.do("open")
+    t.do("begin", 100000)
+    for letter in "ab":
+        t.add_many(40000, letter)
+    row("calls", t.it.disk.calls)
+    t.do("abandon")
+    t.shows()
+    t.do("open")
+    t.payloads()
+    say("So is one that met the limit.")
+    t.do("begin", 9)
+    t.do("add", b"two")
+    t.do("abandon")
+    t.shows()
+    say("A fault of the write or of the sync that empties it is told. A draft whose end could not be written is emptied too: a fault of the write",
+        "of what is held, of the write of the gate, of the sync, and, in the last, of the cut that then empties it.")
+    t.disk(b"\1", log_of([]), b"", 9, 20)
+    t.do("open")
+    for _ in range(2):
+        t.do("begin", 100)
+        t.do("add", b"one")
+        t.do("abandon")
+        t.shows()
+        t.do("open")
+    for failing in ((9,), (10,), (11,), (11, 12)):
+        t.disk(b"\1", log_of([]), b"", *failing)
+        t.do("open")
+        t.do("begin", 100)
+        t.do("add", b"one")
+        t.do("finish")
+        t.shows()
 
 
 def sessions():
@@ -491,6 +539,7 @@ def main():
     limits(t)
     pieces(t)
     faults(t)
+    abandoned(t)
     sessions()
 
 

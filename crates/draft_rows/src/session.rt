@@ -122,6 +122,7 @@ impl Session {
             "add" => self.put_added(row.bytes(1)?, out),
             "copy" => self.put_copied(row.number(1)?, row.number(2)?, out),
             "finish" => self.put_finished(out),
+            "abandon" => self.put_abandoned(out),
             _ => Err(Stop::NoSuchRow),
         }
     }
@@ -186,21 +187,39 @@ impl Session {
     fn put_place(&mut self, done: Result<u64, DraftEnd>, out: &mut String) -> Result<(), Stop> {
         match done {
             Ok(place) => Ok(write!(out, "Ok({place})")?),
+            Err(DraftEnd::Disk) => {
+                out.push_str("Err(Disk), abandoned ")?;
+                self.is_over = true;
+                self.put_abandoned(out)
+            }
             Err(end) => self.put_end(end, out),
         }
     }
 
-    // A draft that doesn't go on is dropped.
     fn put_end(&mut self, end: DraftEnd, out: &mut String) -> Result<(), Stop> {
         match end {
             DraftEnd::Full => {}
-            DraftEnd::Disk => {
-                self.draft = None;
-                self.is_over = true;
-            }
+            DraftEnd::Disk => self.is_over = true,
             DraftEnd::Memory => return Err(Stop::Memory),
         }
         Ok(write!(out, "Err({end:?})")?)
+    }
+
+    // Gives the draft up.
+    fn put_abandoned(&mut self, out: &mut String) -> Result<(), Stop> {
+        let Some(draft) = self.draft.take() else {
+            return Err(Stop::NoSuchRow);
+        };
+        let Some(log) = &self.log else {
+            return Err(Stop::NoSuchRow);
+        };
+        match draft.abandon(&mut self.disk, log) {
+            Ok(()) => Ok(out.push_str("Ok")?),
+            Err(DiskFault) => {
+                self.is_over = true;
+                Ok(out.push_str("Err(DiskFault)")?)
+            }
+        }
     }
 
     fn put_finished(&mut self, out: &mut String) -> Result<(), Stop> {

@@ -10,11 +10,11 @@ use Rattle.mt_disk.proofs.Readings.{reads_leave}
 use Rattle.mt_log.specs.LogImage.{SameLog, chosen_file}
 use Rattle.mt_log.specs.LogState.{LogState}
 use Rattle.mt_log.proofs.Told.{some_of}
-use Rattle.mt_draft.specs.Drafts.{DraftState, IsBegun, IsFirm, KeepsBut, KeepsLog, other_of}
+use Rattle.mt_draft.specs.Drafts.{DraftState, HasFirmLog, IsBegun, IsFirm, KeepsBut, KeepsLog, other_of}
 use Rattle.mt_draft.specs.Steps.{Grew, IsOpenDraft, Poured}
-use Rattle.mt_draft.proofs.Buts.{but_on}
+use Rattle.mt_draft.proofs.Buts.{but_on, but_swap}
 use Rattle.mt_draft.proofs.Copied.{copied_more}
-use Rattle.mt_draft.proofs.Kept.{kept_chosen, kept_log}
+use Rattle.mt_draft.proofs.Kept.{kept_chosen, kept_firm, kept_is, kept_log}
 use Rattle.mt_draft.proofs.Pours.{begun_with, grew_on, grew_poured, open_poured}
 
 -- where the disk tells what it holds, the log and the draft are there
@@ -44,6 +44,28 @@ module _ {D : Type 0} (seen : D → Option Files) (may_leave : D → Files → T
   pub keeps_joins : (old mid new : D) (file : FileNo) (files now : Files) → KeepsLog files file now → LeavesOnly moment left_since old mid (KeepsLog files file) → LeavesOnly moment left_since mid new (KeepsLog now file)
       → LeavesOnly moment left_since old new (KeepsLog files file)
   keeps_joins old mid new file files now kept first second = joins moment left_since old mid new (KeepsLog files file) (KeepsLog now file) (KeepsLog files file) first second (λ c k. k) (λ c k. but_on (other_of file) files now c kept k)
+
+  -- a draft that is there can be given up
+  pub firm_open : (disk : D) (log : LogState) (draft : DraftState) → IsOpen seen may_leave disk log draft → ForSome (seen disk) (λ files. HasFirmLog (may_leave disk) files log)
+  firm_open disk log draft is files seen_is =
+      let at = is files seen_is in
+      record { log_is = at.begun.log_is; firm = at.begun.firm; images = at.images }
+
+  -- also after what leaves all but its file
+  pub firm_after : (old new : D) (log : LogState) → ForSome (seen old) (λ files. HasFirmLog (may_leave old) files log) → is_some (seen new) ≡ is_some (seen old)
+      → ForSome (seen old) (λ files. LeavesOnly moment left_since old new (KeepsLog files log.file)) → ((t : ℕ) (c : Files) → t ≤ moment new → may_leave new c → left_since new t c)
+      → ForSome (seen new) (λ now. may_leave new now) → ForSome (seen new) (λ now. HasFirmLog (may_leave new) now log)
+  firm_after old new log was tells run counts_now seen_left now now_is =
+      let from = some_of (seen old) (seen new) now tells now_is in
+      let files = from.0 in
+      let at = was files from.1 in
+      let leaves = leaves_now moment left_since may_leave old new (KeepsLog files log.file) (run files from.1) counts_now in
+      let kept = leaves now (seen_left now now_is) in
+      record {
+        log_is = kept_is files log at.log_is at.firm now kept;
+        firm = kept_firm files log.file at.firm now kept;
+        images = λ c left. but_swap (other_of log.file) files now c kept (leaves c left);
+      }
 
   module _ (old new : D) (log : LogState) (was mid now : DraftState) (is : IsOpen seen may_leave old log was) (file_is : mid.file ≡ was.file) (written_is : mid.written ≡ was.written)
       (run : (files : Files) → ((c : Files) → may_leave old c → KeepsBut mid.file files c) → LeavesOnly moment left_since old new (KeepsBut mid.file files)) where

@@ -65,6 +65,13 @@ abbrev pub Drafting : {D : Type 0} → (D → Option Files) → (D → Files →
 Drafting seen may_leave disk log draft =
     ForSome (seen disk) (λ files. ((qs : List (List ℕ)) × IsDrafted files log draft qs) × ((c : Files) → may_leave disk c → KeepsLog files log.file c))
 
+-- in these files stands the log, which Head names whatever the other file holds, and a crash leaves it as it is: all that is asked for
+-- a draft to be given up, whatever became of it
+pub record HasFirmLog (may_leave : Files → Type 0) (files : Files) (log : LogState) : Type 0 where
+  pub log_is : IsLogOf files log.file log.gate log.is_old
+  pub firm : IsFirm files log.file
+  pub images : (c : Files) → may_leave c → KeepsLog files log.file c
+
 -- whichever versions an opening takes: these are the payloads
 pub record IsMoved (qs : List (List ℕ)) (c : Files) : Type 0 where
   pub reads : (any : Bool) → payloads_by any c ≡ Ok qs

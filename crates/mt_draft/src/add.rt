@@ -6,7 +6,7 @@ ghost use Rattle.mt_disk.specs.CrashModel.{LeavesOnly};
 ghost use Rattle.mt_log.specs.LogImage.{SameLog, record_head, record_of};
 ghost use Rattle.mt_log.specs.LogState.{next_place, told};
 ghost use Rattle.mt_log.specs.Places.{end_of};
-ghost use Rattle.mt_draft.specs.Drafts.{Drafting, IsDrafted, next_of, size_after};
+ghost use Rattle.mt_draft.specs.Drafts.{Drafting, HasFirmLog, IsDrafted, next_of, size_after};
 
 use crate::draft::{Draft, DraftEnd, RECORD_HEAD};
 use crate::record::push_record;
@@ -26,7 +26,7 @@ impl Draft {
 
     /// Adds a payload of fewer than 2 ^ 32 bytes, and gives its record's place. It makes a call of the disk where 65,536 bytes
     /// or more are held then, and takes memory for the record. After `Full` the draft goes on without it; after `Disk` and
-    /// `Memory` it is to be dropped.
+    /// `Memory` it is to be given up.
     pub fn add<D: Disk>(&mut self, disk: &mut D, log: &Log, payload: &[u8]) -> Result<u64, DraftEnd>
         requires drafting { Drafting D.seen D.may_leave disk.old log.now self.old }
         requires payload { length payload.now < 2 ^ 32 }
@@ -38,6 +38,9 @@ impl Draft {
         ensures at_end { IfOk result (λ place. ForSome (D.seen disk.old) (λ files. (qs : List (List ℕ)) → IsDrafted files log.now self.old qs → place ≡ end_of qs)) }
         ensures next { OnOk result ((next_of self.new ≡ next_place (next_of self.old) (length payload.now)) × (self.new.limit ≡ self.old.limit)) }
         ensures drafting { OnOk result (Drafting D.seen D.may_leave disk.new log.now self.new) }
+
+        // However it ends, the draft can be given up.
+        ensures firm { ForSome (D.seen disk.new) (λ files. HasFirmLog (D.may_leave disk.new) files log.now) }
 
         // The log stays as it was, also in a crash at any moment of the call.
         ensures same { OnOk result (told (D.seen disk.new) ≡ told (D.seen disk.old)) }

@@ -8,7 +8,7 @@ ghost use Rattle.mt_disk.specs.CrashModel.{LeavesOnly, OnlyRead};
 ghost use Rattle.mt_log.specs.LogImage.{SameLog, payloads_of, record_of};
 ghost use Rattle.mt_log.specs.LogState.{told};
 ghost use Rattle.mt_log.specs.Places.{end_of, from_place};
-ghost use Rattle.mt_draft.specs.Drafts.{Drafting, IsDrafted, KeepsLog, next_of, size_after};
+ghost use Rattle.mt_draft.specs.Drafts.{Drafting, HasFirmLog, IsDrafted, KeepsLog, next_of, size_after};
 ghost use Rattle.mt_draft.specs.Steps.{Grew, IsOpenDraft};
 
 use crate::draft::{Draft, DraftEnd, PIECE};
@@ -102,7 +102,7 @@ impl Draft {
 
     /// Adds the records of the log that stand from a place on, so many bytes of whole ones, and gives the place of the first of them.
     /// It makes two calls of the disk for 65,536 bytes, one for fewer than are held then, and takes memory for these. After `Full`
-    /// the draft goes on without them; after `Disk` and `Memory` it is to be dropped.
+    /// the draft goes on without them; after `Disk` and `Memory` it is to be given up.
     pub fn copy<D: Disk>(
         &mut self,
         disk: &mut D,
@@ -121,6 +121,9 @@ impl Draft {
         ensures at_end { IfOk result (λ place. ForSome (D.seen disk.old) (λ files. (qs : List (List ℕ)) → IsDrafted files log.now self.old qs → place ≡ end_of qs)) }
         ensures next { OnOk result ((next_of self.new ≡ next_of self.old + size) × (self.new.limit ≡ self.old.limit)) }
         ensures drafting { OnOk result (Drafting D.seen D.may_leave disk.new log.now self.new) }
+
+        // However it ends, the draft can be given up.
+        ensures firm { ForSome (D.seen disk.new) (λ files. HasFirmLog (D.may_leave disk.new) files log.now) }
 
         // The log stays as it was, also in a crash at any moment of the call.
         ensures same { OnOk result (told (D.seen disk.new) ≡ told (D.seen disk.old)) }

@@ -14,9 +14,9 @@ pub(crate) const RECORD_HEAD: u64 = 1 + 4 + 16;
 pub enum DraftEnd {
     /// The new log would get longer than its limit. The draft is as it was.
     Full,
-    /// The disk has failed. The draft is to be dropped, and the log to be opened again.
+    /// The disk has failed. The draft is to be given up, and the log to be opened again.
     Disk,
-    /// Out of memory. The draft is to be dropped.
+    /// Out of memory. The draft is to be given up.
     Memory,
 }
 

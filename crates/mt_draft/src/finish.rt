@@ -25,9 +25,9 @@ fn name_of(file: FileNo) -> u8
     }
 }
 
-// Empties a file of a disk at rest, and syncs it.
-fn empty<D: Disk>(disk: &mut D, file: FileNo) -> Result<(), DiskFault>
-    requires { IsAtRest D.seen D.may_leave disk.old }
+/// Empties a file, and syncs it, where a crash leaves all others as they are.
+pub(crate) fn empty<D: Disk>(disk: &mut D, file: FileNo) -> Result<(), DiskFault>
+    requires images { ForSome (D.seen disk.old) (λ files. (c : Files) → D.may_leave disk.old c → KeepsBut file files c) }
     ensures emptied { OnOk result (D.seen disk.new ≡ option_map (with_none file) (D.seen disk.old)) }
     ensures rest { OnOk result (IsAtRest D.seen D.may_leave disk.new) }
     ensures any_moment { ForSome (D.seen disk.old) (λ files. LeavesOnly D.moment D.left_since disk.old disk.new (KeepsBut file files)) }
@@ -46,6 +46,7 @@ impl Draft {
         requires images { ForSome (D.seen disk.old) (λ files. (c : Files) → D.may_leave disk.old c → KeepsBut self.old.file files c) }
         ensures sealed { OnOk result (D.seen disk.new ≡ option_map (sealed self.old) (D.seen disk.old)) }
         ensures rest { OnOk result (IsAtRest D.seen D.may_leave disk.new) }
+        ensures told { is_some (D.seen disk.new) ≡ is_some (D.seen disk.old) }
         ensures any_moment { ForSome (D.seen disk.old) (λ files. LeavesOnly D.moment D.left_since disk.old disk.new (KeepsBut self.old.file files)) }
         ensures stays { D.stays disk.old disk.new }
         ensures cause { HasCause (D.faults disk.old) (D.faults disk.new) result }
@@ -56,8 +57,29 @@ impl Draft {
         Ok(())
     }
 
+    // The same, and after a fault its file is emptied, as far as the disk lets it, so that the room is free again.
+    fn seal_or_empty<D: Disk>(&mut self, disk: &mut D) -> Result<(), DiskFault>
+        requires at { ForSome (D.seen disk.old) (λ files. self.old.written ≡ length (contents files self.old.file)) }
+        requires images { ForSome (D.seen disk.old) (λ files. (c : Files) → D.may_leave disk.old c → KeepsBut self.old.file files c) }
+        ensures sealed { OnOk result (D.seen disk.new ≡ option_map (sealed self.old) (D.seen disk.old)) }
+        ensures rest { OnOk result (IsAtRest D.seen D.may_leave disk.new) }
+        ensures any_moment { ForSome (D.seen disk.old) (λ files. LeavesOnly D.moment D.left_since disk.old disk.new (KeepsBut self.old.file files)) }
+        ensures stays { D.stays disk.old disk.new }
+        ensures cause { HasCause (D.faults disk.old) (D.faults disk.new) result }
+    {
+        let file = self.file;
+        match self.seal(disk) {
+            Ok(()) => Ok(()),
+            Err(fault) => {
+                let _ = empty(disk, file);
+                Err(fault)
+            }
+        }
+    }
+
     /// Puts the draft in the log's place, and gives its length in bytes, with its closed gate: up to seven calls of the disk, and no
-    /// memory. The log is then to be opened. After a fault the disk has the log as it was or the new one, whole, and is to be opened.
+    /// memory. The log is then to be opened. After a fault the disk has the log as it was or the new one, whole, and is to be opened;
+    /// a draft that could not be written to its end is emptied, as far as the disk lets it.
     pub fn finish<D: Disk>(self, disk: &mut D, log: Log) -> Result<u64, DiskFault>
         requires drafting { Drafting D.seen D.may_leave disk.old log self }
 
@@ -79,7 +101,7 @@ impl Draft {
         let byte = name_of(self.file());
         let old = log.file();
         let mut draft = self;
-        draft.seal(disk)?;
+        draft.seal_or_empty(disk)?;
         name(disk, byte)?;
         empty(disk, old)?;
         Ok(size)

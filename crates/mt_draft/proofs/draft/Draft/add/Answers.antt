@@ -5,7 +5,7 @@ use Rattle.mt_log.proofs.Records.{length-head_of}
 use Rattle.mt_log.proofs.Told.{some_of}
 use Rattle.mt_draft.specs.Drafts.{DraftState, next_of}
 use Rattle.mt_draft.proofs.Drafted.{drafted_more, drafted_told, drafting_open, grew_record, next_end}
-use Rattle.mt_draft.proofs.Pouring.{keeps_same, open_started, pours_grew, pours_leave, pours_open}
+use Rattle.mt_draft.proofs.Pouring.{firm_after, firm_open, keeps_same, open_started, pours_grew, pours_leave, pours_open}
 use Rattle.mt_draft.proofs.Pours.{begun_with}
 use Rattle.mt_draft.proofs.draft.Draft.add.Goals as goal
 
@@ -99,3 +99,35 @@ returns-clause-next g c =
       omega (arith, stays.1, ap next_of held, length-append c.args.self.now.held (record_of p), length-append (head_of p) p, length-head_of p),
       stays.0 ∙ ap (λ (s : DraftState). s.limit) held,
     )
+
+pub returns-then-not-has_room-clause-firm : goal.returns-then-not-has_room-clause-firm
+returns-then-not-has_room-clause-firm g c =
+    let d = g.D.Disk in
+    firm_open d.seen d.may_leave d.moment d.left_since _ c.args.log.now c.args.self.now (drafting_open d.seen d.may_leave _ c.args.log.now c.args.self.now c.requires.drafting)
+
+pub returns-in_err-hold-clause-firm : goal.returns-in_err-hold-clause-firm
+returns-in_err-hold-clause-firm g c =
+    let d = g.D.Disk in
+    firm_open d.seen d.may_leave d.moment d.left_since _ c.args.log.now c.args.self.now (drafting_open d.seen d.may_leave _ c.args.log.now c.args.self.now c.requires.drafting)
+
+pub returns-in_err-pour-clause-firm : goal.returns-in_err-pour-clause-firm
+returns-in_err-pour-clause-firm g c =
+    let d = g.D.Disk in
+    let log = c.args.log.now in
+    let was = c.args.self.now in
+    let held = c.in_ok-hold.ensures.held in
+    let opened = drafting_open d.seen d.may_leave _ log was c.requires.drafting in
+    firm_after d.seen d.may_leave d.moment d.left_since _ _ log (firm_open d.seen d.may_leave d.moment d.left_since _ log was opened) c.pour.ensures.told
+    (pours_leave d.seen d.may_leave d.moment d.left_since _ _ log was c.hold.new.self c.pour.new.self opened (ap (λ (s : DraftState). s.file) held) (ap (λ (s : DraftState). s.written) held) c.pour.ensures.images)
+    (g.met.D.Disk.counts_now c.pour.new.disk) (g.met.D.Disk.seen_is_left c.pour.new.disk)
+
+pub returns-clause-firm : goal.returns-clause-firm
+returns-clause-firm g c =
+    let d = g.D.Disk in
+    let log = c.args.log.now in
+    let was = c.args.self.now in
+    let held = c.in_ok-hold.ensures.held in
+    let opened = drafting_open d.seen d.may_leave _ log was c.requires.drafting in
+    firm_after d.seen d.may_leave d.moment d.left_since _ _ log (firm_open d.seen d.may_leave d.moment d.left_since _ log was opened) c.pour.ensures.told
+    (pours_leave d.seen d.may_leave d.moment d.left_since _ _ log was c.hold.new.self c.pour.new.self opened (ap (λ (s : DraftState). s.file) held) (ap (λ (s : DraftState). s.written) held) c.pour.ensures.images)
+    (g.met.D.Disk.counts_now c.pour.new.disk) (g.met.D.Disk.seen_is_left c.pour.new.disk)

@@ -8,7 +8,7 @@ use Rattle.mt_log.proofs.Told.{some_of}
 use Rattle.mt_draft.specs.Steps.{Grew}
 use Rattle.mt_draft.proofs.Copied.{are_records}
 use Rattle.mt_draft.proofs.Drafted.{drafted_more, drafted_told, drafting_open, next_end}
-use Rattle.mt_draft.proofs.Pouring.{keeps_same, open_started}
+use Rattle.mt_draft.proofs.Pouring.{firm_after, firm_open, keeps_same, open_started}
 use Rattle.mt_draft.proofs.draft.Draft.copy.Goals as goal
 
 pub add_bytes-requires-clause-draft : goal.add_bytes-requires-clause-draft
@@ -62,3 +62,22 @@ returns-clause-same g c =
 
 pub returns-clause-at_end : goal.returns-clause-at_end
 returns-clause-at_end g c files is qs drafted = c.next-place.ensures ∙ next_end files c.args.log.now c.args.self.now qs drafted
+
+pub returns-then-not-has_room-clause-firm : goal.returns-then-not-has_room-clause-firm
+returns-then-not-has_room-clause-firm g c =
+    let d = g.D.Disk in
+    firm_open d.seen d.may_leave d.moment d.left_since _ c.args.log.now c.args.self.now (drafting_open d.seen d.may_leave _ c.args.log.now c.args.self.now c.requires.drafting)
+
+pub returns-in_err-add_bytes-clause-firm : goal.returns-in_err-add_bytes-clause-firm
+returns-in_err-add_bytes-clause-firm g c =
+    let d = g.D.Disk in
+    let log = c.args.log.now in
+    firm_after d.seen d.may_leave d.moment d.left_since _ _ log (firm_open d.seen d.may_leave d.moment d.left_since _ log c.args.self.now (drafting_open d.seen d.may_leave _ log c.args.self.now c.requires.drafting))
+    c.add_bytes.ensures.told c.add_bytes.ensures.any_moment (g.met.D.Disk.counts_now c.add_bytes.new.disk) (g.met.D.Disk.seen_is_left c.add_bytes.new.disk)
+
+pub returns-clause-firm : goal.returns-clause-firm
+returns-clause-firm g c =
+    let d = g.D.Disk in
+    let log = c.args.log.now in
+    firm_after d.seen d.may_leave d.moment d.left_since _ _ log (firm_open d.seen d.may_leave d.moment d.left_since _ log c.args.self.now (drafting_open d.seen d.may_leave _ log c.args.self.now c.requires.drafting))
+    c.add_bytes.ensures.told c.add_bytes.ensures.any_moment (g.met.D.Disk.counts_now c.add_bytes.new.disk) (g.met.D.Disk.seen_is_left c.add_bytes.new.disk)
