@@ -16,11 +16,11 @@ const JOB: u8 = 2;
 /// helpers, the login, the job's identifier, the phase, what outputs begin with, the input object's name (or nothing) and the
 /// reducer's number (or nothing).
 const SCRIPT: &str = r#"marlin_helper=$4
-case $marlin_helper in /*) ;; */*) marlin_helper=$(pwd)/$marlin_helper ;; esac
+case $marlin_helper in /*) ;; */*) marlin_helper=$PWD/$marlin_helper ;; esac
 cd "$1" || exit 125
 exec 2>err
 marlin_exec=$2; marlin_init=$3; marlin_login=$5
-marlin_dir=$(pwd)
+marlin_dir=$PWD
 MANTA_JOB_ID=$6; MANTA_PHASE=$7; MANTA_OUTPUT_BASE=$8
 MANTA_INPUT_FILE=$marlin_dir/input; MANTA_ASSETS=$marlin_dir/assets; LC_ALL=C
 export MANTA_JOB_ID MANTA_PHASE MANTA_OUTPUT_BASE MANTA_INPUT_FILE MANTA_ASSETS LC_ALL
@@ -65,7 +65,7 @@ echo "$status" >ended.new && mv ended.new ended
 /// standard output tells that it has ended, and it takes the launcher's status, which nobody else may.
 const START: &str = r#"trap : HUP INT TERM
 cd "$1" || exit
-"$2" sh "$(pwd)/run" >/dev/null
+"$2" sh "$PWD/run" >/dev/null
 exit"#;
 
 // A text, or nothing.
