@@ -1,22 +1,29 @@
 //! The folder of a store, which belongs to one program at a time.
 use crate::failure::{Failure, FileCall, name_of};
 use crate::progress::Progress;
+use libc::{POSIX_FADV_DONTNEED, posix_fadvise};
 use mt_disk::FileNo;
 use std::alloc::{AllocError, Global};
 use std::fs::{self, File, OpenOptions, TryLockError};
 use std::io;
 use std::io::{Eprint, ErrorKind};
+use std::os::fd::AsRawFd;
 use std::os::unix::fs::FileExt;
 use std::rt::Files;
 
 /// A log without a record, as it is when it was just made.
 const EMPTY_LOG: [u8; 9] = *b"MTLOG002\0";
 
-// An open file. Its length is kept, so that a write behind the end is told without a call of the system.
+/// The disk is started after so many bytes, so that a sync finds little left to do and doesn't hold all clients.
+const STARTED: u64 = 8_388_608;
+
+// An open file. Its length is kept, so that a write behind the end is told without a call of the system; and how many bytes were
+// written that neither a sync nor a start of the disk was asked for.
 #[derive(Drop)]
 pub(crate) struct OpenFile {
     file: File,
     len: Option<u64>,
+    unstarted: u64,
 }
 
 impl OpenFile {
@@ -48,7 +55,31 @@ impl OpenFile {
         self.file.write_all_at(piece, at)?;
         let end = at.saturating_add(piece.len() as u64);
         self.len = len.map(|len| len.max(end));
+        self.start_disk(piece.len() as u64, end);
         Ok(())
+    }
+
+    // Has the system begin to write, where much was written up to an end. It is a hint for these bytes alone: nothing is waited for, and
+    // where it is refused the sync does all of it.
+    fn start_disk(&mut self, written: u64, end: u64) {
+        self.unstarted = self.unstarted.saturating_add(written);
+        if self.unstarted < STARTED {
+            return;
+        }
+        if let Ok(from) = i64::try_from(end.saturating_sub(self.unstarted)) {
+            let _ = posix_fadvise(
+                self.file.as_raw_fd(),
+                from,
+                STARTED as i64,
+                POSIX_FADV_DONTNEED,
+            );
+        }
+        self.unstarted = 0;
+    }
+
+    fn sync(&mut self) -> io::Result<()> {
+        self.unstarted = 0;
+        self.file.sync_data()
     }
 
     pub(crate) fn cut(&mut self, to: u64) -> io::Result<()> {
@@ -272,7 +303,11 @@ impl<R: Files<File = File> + Eprint> Folder<R> {
         let mut options = OpenOptions::new();
         options.read(true).write(true).create(true);
         match options.open(&self.rt, self.path_of(file)) {
-            Ok(file) => Ok(OpenFile { file, len: None }),
+            Ok(file) => Ok(OpenFile {
+                file,
+                len: None,
+                unstarted: 0,
+            }),
             Err(error) => Err(Failure::of_file(FileCall::Open, file, error)),
         }
     }
@@ -313,7 +348,7 @@ impl<R: Files<File = File> + Eprint> Folder<R> {
 
     /// Puts what was written to a file on the disk.
     pub(crate) fn sync(&mut self, file: FileNo) -> Result<(), Failure> {
-        let done = self.get(file)?.file.sync_data();
+        let done = self.get(file)?.sync();
         self.lost = done.is_err();
         match done {
             Ok(()) => Ok(()),
