@@ -76,10 +76,9 @@ module _ (login : Bytes) (gives : Run → Bytes → Raw → Type 0) where
   lists : (r : Reply) → IsAnswer login gives r → Honest login gives (fate login) r.before → ListsOutputs login gives r
   unfolding answer_of
   lists r is all request n job asks doing there done ok =
-      let same : r.answer ≡ job_answer_of login r.limit (replay first_state r.before) r.used r.head request r.body r.moment = is ∙ ap (answer_asked login r.limit (replay first_state r.before) r.used r.head r.body r.moment) asks in
-      (
+      let same : r.answer ≡ job_answer_of login r.limit (replay first_state r.before) r.used r.head request r.body r.moment = is ∙ ap (answer_asked login r.limit (replay first_state r.before) r.used r.head r.body r.moment) asks in (
         subst (λ (a : Answer Bytes). IsTold a (live_out login job)) (sym same)
-          (outputs_told login r.limit (replay first_state r.before) r.used r.head request r.body r.moment n job doing there (not_refused r request same ok)),
+            (outputs_told login r.limit (replay first_state r.before) r.used r.head request r.body r.moment n job doing there (not_refused r request same ok)),
         finished_jobs_mean login gives (fate login) r.before all job (found (λ j. j.number == n) (replay first_state r.before).jobs job there) done,
       )
 
@@ -96,8 +95,7 @@ module _ (login : Bytes) (gives : Run → Bytes → Raw → Type 0) where
   kept : (before after h : History) (rs : List Reply) → IsPrefixOf after h → Honest login gives (fate login) h → AllByRecursion (IsReplyOf login gives before after) rs → AllByRecursion (IsKept login gives h) rs
   kept before after h [] p all said = tt
   kept before after h (r ∷ rs) p all said =
-      let stays = through (reported r) after h said.0.durable p in
-      (
+      let stays = through (reported r) after h said.0.durable p in (
         record {
           answer = said.0.answer;
           position = position_of r said.0.answer;

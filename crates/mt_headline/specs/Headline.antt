@@ -70,7 +70,7 @@ module _ (login : Bytes) (gives : Run → Bytes → Raw → Type 0) where
     pub image : HasWhole HasHistory l.after l.files
     pub replies : AllByRecursion (IsReplyOf before l.after) l.replies
 
-  -- runs one after the other, each on what the one before it left
+  -- runs one after the other, each on what the run before it left
   abbrev pub Chain : History → List Life → History → Type 0
   Chain before [] after = after ≡ before
   Chain before (l ∷ ls) after = IsLife before l × Chain l.after ls after
