@@ -1,0 +1,4 @@
+pub mod Gets
+pub mod Headline
+pub mod Position
+pub mod Refusals
