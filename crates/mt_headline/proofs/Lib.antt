@@ -1,4 +1,6 @@
+pub mod Chains
 pub mod Gets
 pub mod Headline
 pub mod Position
 pub mod Refusals
+pub mod Runs
