@@ -1,1 +1,3 @@
 pub mod Certified
+pub mod CertifyWords
+pub mod Certifying
