@@ -1,14 +1,11 @@
-//! The certificate of a job of a store, as it is asked for by words.
+//! The certificate of a job whose bodies are in a log, and the words that ask for one.
 //!
-//! - `words`: what the words behind the commands ask for.
-//! - `top`: `certify`, the call that the program makes, with all that is promised of it; `end`: how it ended, and its number.
-//! - `found`: the job that is asked for; `job`: the certificate of one job.
+//! - `words`: what the words behind `certify` and `check` ask for.
 //! - `laws`: the certificate of a job over references is that over the bytes that they stand for, and that of a finished job is accepted.
 //!
-//! In `specs/` begin with `Answers`; `Certifying` is the same over references, `CertifyWords` the grammar.
+//! In `specs/` begin with `Certified`; `CertifyWords` is the grammar.
 #![tactic(auto)]
 
-mod job;
 pub mod laws;
 mod words;
 
