@@ -1,1 +1,2 @@
-mod Read
+pub mod Read
+pub mod Reading
