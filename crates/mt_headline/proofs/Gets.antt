@@ -1,22 +1,19 @@
 -- What a reader of a path gets.
 use Rattle.std.proofs.Common.{◌≡◌, ℕ, List, [], ◌∷◌, length, Option, Some, None, Result, Ok, Err, refl, sym, ap, ◌∙◌, subst}
-use Rattle.std.specs.Prelude.{option_map}
 use Rattle.std.proofs.lemmas.Option.{same_Some}
 use Rattle.md5.specs.Md5.{md5}
-use Rattle.mt_answer.specs.Answer.{Answer, answer_by, answer_in, answer_to, found_reply, refuse, rows_answer_of, stamp_of}
-use Rattle.mt_answer.specs.Judging.{read_refusal, refusal_of, refused_as, stored_len}
+use Rattle.mt_answer.specs.Answer.{Answer, answer_by, answer_in, answer_to, found_reply, rows_answer_of, stamp_of}
+use Rattle.mt_answer.specs.Judging.{read_refusal, refusal_of}
 use Rattle.mt_answer.specs.Whole.{answer_asked, answer_of}
-use Rattle.mt_cond.specs.Conditions.{conditions_of, judged}
+use Rattle.mt_cond.specs.Conditions.{judged}
 use Rattle.mt_cond.specs.declared.conditions.Conditions.{Conditions}
 use Rattle.mt_error.specs.declared.refused.Refused.{Refused}
 use Rattle.mt_headline.specs.Gets.{GetGives, GetGivesNothing, Gives, GivesNothing, no_conditions}
 use Rattle.mt_http.specs.declared.message.Head.{Head}
-use Rattle.mt_model.specs.Rows.{Rows, at, object_at, object_in}
+use Rattle.mt_model.specs.Rows.{at, object_in}
 use Rattle.mt_model.specs.State.{State}
 use Rattle.mt_path.specs.AccountPath.{AccountPath}
 use Rattle.mt_request.specs.Order.{first_of}
-use Rattle.mt_request.specs.Requests.{asked_of}
-use Rattle.mt_request.specs.declared.asked.Asked.TheVariants as asked
 use Rattle.mt_request.specs.declared.digest.Wish.TheVariants as wish
 use Rattle.mt_request.specs.declared.query.Page.{Page}
 use Rattle.mt_request.specs.declared.request.Doing.TheVariants as doing

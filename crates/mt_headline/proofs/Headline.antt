@@ -14,19 +14,18 @@ use Rattle.mt_base.specs.Lists.{IsPrefixOf}
 use Rattle.mt_error.specs.declared.refused.Refused.{Refused}
 use Rattle.mt_headline.proofs.Position.{positions_are_named}
 use Rattle.mt_headline.proofs.Refusals.{refused_jobs_are_errors}
-use Rattle.mt_headline.specs.Headline.{Chain, ChainsMeetHeadline, Headline, IsAnswer, IsKept, IsLife, IsReplyOf, Life, ListsOutputs, NamesPosition, Reply, reported}
+use Rattle.mt_headline.specs.Headline.{Chain, ChainsMeetHeadline, IsAnswer, IsKept, IsReplyOf, Life, ListsOutputs, NamesPosition, Reply, reported}
 use Rattle.mt_headline.specs.Position.{HasPosition}
 use Rattle.mt_model.proofs.Finished.{finished_jobs_mean}
 use Rattle.mt_model.proofs.LawfulHistories.{lawful_honest}
 use Rattle.mt_model.proofs.Stood.{honest_on, short_honest}
 use Rattle.mt_model.specs.CommandStep.{replay, step}
-use Rattle.mt_model.specs.Finished.{IsMeant, is_finished, live_out}
+use Rattle.mt_model.specs.Finished.{live_out}
 use Rattle.mt_model.specs.Honest.{Honest, HonestFrom}
-use Rattle.mt_model.specs.State.{State, first_state, job_at}
+use Rattle.mt_model.specs.State.{State, first_state}
 use Rattle.mt_opening.specs.History.{Bytes, History}
 use Rattle.mt_records.specs.Fate.{fate}
 use Rattle.mt_reply.specs.ReplyFields.{stamp_fields}
-use Rattle.mt_request.specs.Requests.{asked_of}
 use Rattle.mt_request.specs.declared.asked.JobRequest.{JobRequest}
 use Rattle.mt_types.specs.declared.task.Raw.{Raw}
 use Rattle.mt_types.specs.declared.task.Run.{Run}

@@ -1,15 +1,13 @@
 -- Each answer names its position.
-use Rattle.std.proofs.Common.{◌≡◌, ℕ, ◌+◌, ◌*◌, Bool, true, false, List, [], ◌∷◌, ◌++◌, codes, length, Option, Some, None, Result, Ok, Err, refl, sym, ap, ◌∙◌, subst, arith}
+use Rattle.std.proofs.Common.{◌≡◌, ℕ, ◌+◌, ◌*◌, Bool, true, false, List, [], ◌∷◌, ◌++◌, codes, length, Option, Some, None, Result, Ok, Err, refl, arith}
 use Rattle.md5.specs.Md5.{md5}
-use Rattle.mt_answer.specs.Answer.{Answer, accept, add_if, answer_by, answer_in, answer_to, command_of, found_reply, has_room, link_reply, listing_reply, look_reply, range_reply, ranged_reply, refuse, reply_to, rows_answer_of, stamp_of}
-use Rattle.mt_answer.specs.JobAnswer.{archive_asked, job_accept, job_add_if, job_answer_by, job_answer_in, job_answer_of, job_command_of, job_growth, job_has_room, job_reply_to, refuse_job, stand_reply, text_reply}
+use Rattle.mt_answer.specs.Answer.{Answer, accept, add_if, answer_by, answer_in, command_of, found_reply, has_room, link_reply, listing_reply, range_reply, ranged_reply, reply_to, rows_answer_of, stamp_of}
+use Rattle.mt_answer.specs.JobAnswer.{archive_asked, job_accept, job_add_if, job_answer_by, job_answer_in, job_answer_of, job_command_of, job_has_room, job_reply_to, stand_reply, text_reply}
 use Rattle.mt_answer.specs.JobJudging.{asked_job, job_refusal_of}
-use Rattle.mt_answer.specs.Judging.{refusal_of, stored_len}
+use Rattle.mt_answer.specs.Judging.{refusal_of}
 use Rattle.mt_answer.specs.Posting.{posted_of}
 use Rattle.mt_answer.specs.Whole.{answer_asked, answer_of}
 use Rattle.mt_answer.specs.declared.posted.Posted.{Posted}
-use Rattle.mt_body.specs.Growth.{growth}
-use Rattle.mt_body.specs.Stored.{pieces_size}
 use Rattle.mt_cond.specs.Conditions.{conditions_of}
 use Rattle.mt_cond.specs.Range.{ranged}
 use Rattle.mt_cond.specs.declared.conditions.Conditions.{Conditions}
@@ -29,7 +27,7 @@ use Rattle.mt_jobtext.specs.JobTexts.{line_count}
 use Rattle.mt_model.specs.Listing.{result_set_size}
 use Rattle.mt_model.specs.Names.{job_folder}
 use Rattle.mt_reply.specs.ReplyFields.{digest_field, etag_field, field, live_fields, modified_field, more_fields, number_field, object_fields, part_field, stamp_fields, stored_fields}
-use Rattle.mt_reply.specs.Replies.{error_reply, page_type, reply_of}
+use Rattle.mt_reply.specs.Replies.{error_reply, page_type}
 use Rattle.mt_types.specs.declared.limits.TheConstants.{NUMBERS_A_COMMAND}
 use Rattle.mt_reply.specs.declared.stamp.Stamp.{Stamp}
 use Rattle.mt_request.specs.Requests.{asked_of}

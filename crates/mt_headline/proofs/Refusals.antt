@@ -1,10 +1,10 @@
 -- What an error status says.
-use Rattle.std.proofs.Common.{◌≡◌, ◌⊎◌, inl, inr, ℕ, ◌≤◌, ◌<◌, ◌+◌, ◌*◌, Bool, true, false, List, [], ◌∷◌, length, Option, Some, None, Result, Ok, Err, refl, sym, ap, ◌∙◌, subst, arith}
+use Rattle.std.proofs.Common.{◌≡◌, ◌⊎◌, inl, inr, ℕ, ◌≤◌, ◌<◌, ◌+◌, Bool, true, false, List, [], length, Option, Some, None, Result, Ok, Err, refl, arith}
 use Rattle.md5.specs.Md5.{md5}
-use Rattle.mt_answer.specs.Answer.{Answer, accept, add_if, answer_by, answer_in, answer_to, command_of, found_reply, has_room, link_reply, listing_reply, look_reply, range_reply, ranged_reply, refuse, reply_to, rows_answer_of, stamp_of}
-use Rattle.mt_answer.specs.JobAnswer.{archive_asked, job_accept, job_add_if, job_answer_by, job_answer_in, job_answer_of, job_command_of, job_growth, job_has_room, job_reply_to, refuse_job, stand_reply, text_reply}
+use Rattle.mt_answer.specs.Answer.{Answer, accept, add_if, answer_by, answer_in, command_of, found_reply, has_room, link_reply, listing_reply, range_reply, ranged_reply, reply_to, rows_answer_of, stamp_of}
+use Rattle.mt_answer.specs.JobAnswer.{archive_asked, job_accept, job_add_if, job_answer_by, job_answer_in, job_answer_of, job_command_of, job_has_room, job_reply_to, stand_reply, text_reply}
 use Rattle.mt_answer.specs.JobJudging.{asked_job, job_refusal_of}
-use Rattle.mt_answer.specs.Judging.{refusal_of, stored_len}
+use Rattle.mt_answer.specs.Judging.{refusal_of}
 use Rattle.mt_answer.specs.Posting.{posted_of}
 use Rattle.mt_answer.specs.Whole.{answer_asked, answer_of}
 use Rattle.mt_answer.specs.declared.posted.Posted.{Posted}
@@ -15,7 +15,6 @@ use Rattle.mt_cond.specs.declared.range.Range.{Range}
 use Rattle.mt_cond.specs.declared.range.Ranged.{Ranged}
 use Rattle.mt_cond.specs.declared.range.Ranged.TheVariants as part
 use Rattle.mt_error.specs.ErrorTable.{status_of_error}
-use Rattle.mt_error.specs.Refusals.{plain}
 use Rattle.mt_error.specs.declared.code.ErrorCode.{ErrorCode}
 use Rattle.mt_error.specs.declared.code.ErrorCode.TheVariants as error
 use Rattle.mt_error.specs.declared.refused.Refused.{Refused}

@@ -1,5 +1,5 @@
 -- A run is a life.
-use Rattle.std.proofs.Common.{◌≡◌, ◌≢◌, ◌≤◌, ◌⊎◌, inl, inr, ℕ, ◌+◌, Bool, true, List, [], ◌∷◌, ◌++◌, Option, Some, refl, sym, ap, ◌∙◌, subst, append_assoc, append-nil, arith}
+use Rattle.std.proofs.Common.{◌≡◌, ◌≢◌, ◌≤◌, ◌⊎◌, inl, inr, ℕ, ◌+◌, Bool, true, false, List, [], ◌∷◌, ◌++◌, Option, Some, refl, sym, ap, ◌∙◌, subst, append_assoc, arith}
 use Rattle.std.proofs.lemmas.List.{append_cancel_left}
 use Rattle.std.specs.Bool.{MatchBool}
 use Rattle.std.specs.List.{AllByRecursion, flat_map}
@@ -10,7 +10,7 @@ use Rattle.mt_base.specs.Lists.{IsPrefixOf}
 use Rattle.mt_connection.proofs.Crashes.{all_of, front_of_front}
 use Rattle.mt_connection.specs.Endings.{Cut, Ends, Halted, IsCut, IsCutEarly, Refusing, Served, Unanswered}
 use Rattle.mt_connection.specs.Sides.{LinkSide, Sides, account_of, joined}
-use Rattle.mt_connection.specs.Transcript.{Exchange, HoldsSince, IsTheAnswer, Run as Runs, Setting, Stand, commands_of, growth_of, still, working}
+use Rattle.mt_connection.specs.Transcript.{Exchange, IsTheAnswer, Run as Runs, Setting, Stand, commands_of, growth_of, still, working}
 use Rattle.mt_connection.specs.declared.end.ConnectionEnd.{ConnectionEnd}
 use Rattle.mt_connection.specs.declared.end.ConnectionEnd.TheVariants as ended
 use Rattle.mt_disk.specs.Files.{Files}
@@ -37,8 +37,6 @@ use Rattle.mt_server.specs.Statuses.{most_messages}
 use Rattle.mt_server.specs.declared.status.Status.{Status}
 use Rattle.mt_server.specs.declared.status.Status.TheVariants as status
 use Rattle.mt_runner.specs.Turning.{most_turns}
-use Rattle.mt_types.specs.declared.task.Raw.{Raw}
-use Rattle.mt_types.specs.declared.task.Run.{Run}
 
 both : {X : Type 0} → (P : X → Type 0) → (xs ys : List X) → AllByRecursion P xs → AllByRecursion P ys → AllByRecursion P (xs ++ ys)
 both P [] ys all more = more
@@ -74,8 +72,7 @@ module _ (s : Setting) (knows : s.knows ≡ true) (earlier : History) (base : s.
   exchanges_are : (entry h : History) (used asked from to : ℕ) (xs : List Exchange) → IsPrefixOf entry h → to ≤ now → Runs s h used asked xs → Stand s since h from xs to → AreReplies entry (replies_of earlier s.limit h used xs)
   exchanges_are entry h used asked from to [] p late run stand = tt
   exchanges_are entry h used asked from to (x ∷ xs) p late run stand =
-      let before = stand_time (h ++ commands_of x) x.settled xs to stand.2 in
-      (
+      let before = stand_time (h ++ commands_of x) x.settled xs to stand.2 in (
         is_reply entry h used x.head x.body x.moment x.answer p run.0.answered (stand.1 knows c (left x.settled (omega (arith, before, late)))),
         exchanges_are entry (h ++ commands_of x) (used + growth_of x) x.turn.asked x.settled to xs (front_of_front entry h (h ++ commands_of x) p (commands_of x, refl)) late run.2 stand.2,
       )
@@ -102,6 +99,12 @@ module _ (s : Setting) (knows : s.knows ≡ true) (earlier : History) (base : s.
   halted_is entry old new Did p x late =
       exchanges_are (still s) knows earlier base since now c k left has entry old.history old.used old.asked old.time x.middle.time (x.exchange ∷ []) p late x.answered.run x.stand
 
+  break_is : (entry : History) (old new : Sides) (Did : AccountSide → AccountSide → Type 0) → IsPrefixOf entry old.history → new.time ≤ now → ((x : Halted s since old new Did) → x.middle.time ≤ now)
+      → (x : (Cut s since old new ⊎ Unanswered old new) ⊎ Halted s since old new Did) → Said entry (of_break earlier s since old new Did x)
+  break_is entry old new Did p late before (inl (inl x)) = cut_is s knows earlier base since now c k left has entry old new p late x
+  break_is entry old new Did p late before (inl (inr none)) = tt
+  break_is entry old new Did p late before (inr x) = halted_is entry old new Did p x (before x)
+
   ends_are : (entry : History) (most : ℕ) (xs : List Exchange) (old : Sides) (end : ConnectionEnd) (new : Sides) → IsPrefixOf entry old.history → new.time ≤ now → (e : Ends s since most xs old end new)
       → Said entry (last_reply earlier s since most xs old end new e)
   ends_are entry most xs old ended.SinkFault new p late e = by e.1
@@ -111,18 +114,8 @@ module _ (s : Setting) (knows : s.knows ≡ true) (earlier : History) (base : s.
       by (inl (inr early)) = tt
       by (inr refused) = tt
   ends_are entry most xs old ended.Full new p late e = let time = e.1.did.unmoved.counts.time in halted_is entry old new _ p e.1 (omega (arith, time, late))
-  ends_are entry most xs old ended.Disk new p late e = by e.1
-    where
-      by : (x : (Cut s since old new ⊎ Unanswered old new) ⊎ Halted s since old new _) → Said entry (of_break earlier s since old new _ x)
-      by (inl (inl x)) = cut_is s knows earlier base since now c k left has entry old new p late x
-      by (inl (inr none)) = tt
-      by (inr x) = let time = x.did.counts.time in halted_is entry old new _ p x (omega (arith, time, late))
-  ends_are entry most xs old ended.Memory new p late e = by e.1
-    where
-      by : (x : (Cut s since old new ⊎ Unanswered old new) ⊎ Halted s since old new _) → Said entry (of_break earlier s since old new _ x)
-      by (inl (inl x)) = cut_is s knows earlier base since now c k left has entry old new p late x
-      by (inl (inr none)) = tt
-      by (inr x) = let time = x.did.counts.time in halted_is entry old new _ p x (omega (arith, time, late))
+  ends_are entry most xs old ended.Disk new p late e = break_is entry old new _ p late (λ x. let time = x.did.counts.time in omega (arith, time, late)) e.1
+  ends_are entry most xs old ended.Memory new p late e = break_is entry old new _ p late (λ x. let time = x.did.counts.time in omega (arith, time, late)) e.1
   ends_are entry most xs old ended.Ended new p late e = tt
   ends_are entry most xs old ended.Many new p late e = tt
   ends_are entry most xs old ended.Truncated new p late e = tt
@@ -178,7 +171,7 @@ module _ {L : Type 0} (side : L → LinkSide) (stays : L → L → Type 0) (s : 
       let three = events_time x.1 es new x.5 in
       omega (arith, one, two, three)
   events_time old (Woke last ∷ es) new x =
-      let one = (behind_counts {L} s (Woke last) old x.0 x.1).time in
+      let one = (behind_counts s {L = L} (Woke last) old x.0 x.1).time in
       let two = events_time x.0 es new x.3 in
       omega (arith, one, two)
 
@@ -195,7 +188,7 @@ module _ {L : Type 0} (side : L → LinkSide) (stays : L → L → Type 0) (s : 
         (replies_of_events earlier side stays s since x.1 es new x.5)
         (connection_is (on_link s (side slice.taken)) knows earlier base since now c k left has entry most_messages (joined (side slice.taken) old) slice.end (joined (side slice.given) x.0) p (omega (arith, two, three, late)) x.2.0)
         (events_are entry x.1 es new (front_of_front entry x.0.history x.1.history grown (behind_grows s (Had slice) x.0 x.1 x.3)) late x.5)
-    events_are entry old (Woke last ∷ es) new p late x = events_are entry x.0 es new (front_of_front entry old.history x.0.history p (behind_grows {L} s (Woke last) old x.0 x.1)) late x.3
+    events_are entry old (Woke last ∷ es) new p late x = events_are entry x.0 es new (front_of_front entry old.history x.0.history p (behind_grows s {L = L} (Woke last) old x.0 x.1)) late x.3
 
     serve_is : (wanted : ℕ) (old : Shop L) (end : Status) (new : Shop L) (events : List (Event L)) → new.account.time ≤ now → (x : Serve side stays s since wanted old end new events)
         → AllByRecursion (IsReplyOf s.login s.runs (earlier ++ old.account.history) (earlier ++ k)) (replies_of_serve earlier side stays s since wanted old end new events x)
@@ -227,8 +220,7 @@ life s knows earlier base old end new holds counts c image replies are =
     let added : own ++ is.to.0 ≡ holds.added = append_cancel_left old.side.history _ _ all in
     let state : replay s.base old.side.history ≡ replay first_state (earlier ++ old.side.history) = ap (λ (b : State Bytes). replay b old.side.history) base ∙ sym (replay_on first_state earlier old.side.history) in
     let honest : HonestFrom s.login s.runs (fate s.login) (replay s.base old.side.history) own =
-    short_honest s.login s.runs (fate s.login) (replay s.base old.side.history) own is.to.0 (subst (HonestFrom s.login s.runs (fate s.login) (replay s.base old.side.history)) (sym added) holds.honest) in
-    (
+    short_honest s.login s.runs (fate s.login) (replay s.base old.side.history) own is.to.0 (subst (HonestFrom s.login s.runs (fate s.login) (replay s.base old.side.history)) (sym added) holds.honest) in (
       earlier ++ is.history,
       record {
         added = own;
@@ -264,7 +256,7 @@ pub is_session : (s : Setting) (earlier rest before : History) → s.knows ≡ t
 is_session s earlier rest before knows base all old end new same counts run = record {
   run = run;
   lives = subst (λ (h : History). LeavesLives s.login s.runs h new.images (replies_of_session earlier s new.since old.side end new.side run.transcript))
-    (ap (λ (h : History). earlier ++ h) same ∙ sym all) (sessions_are_lives s earlier knows base old end new counts run);
+      (ap (λ (h : History). earlier ++ h) same ∙ sym all) (sessions_are_lives s earlier knows base old end new counts run);
 }
 
 pub is_serve : {L : Type 0} (side : L → LinkSide) (stays : L → L → Type 0) (s : Setting) (earlier rest before : History) → s.knows ≡ true → s.base ≡ replay first_state earlier → before ≡ earlier ++ rest
@@ -273,5 +265,5 @@ pub is_serve : {L : Type 0} (side : L → LinkSide) (stays : L → L → Type 0)
 is_serve side stays s earlier rest before knows base all wanted old end new same counts served = record {
   served = served;
   lives = subst (λ (h : History). LeavesLives s.login s.runs h new.images (replies_of_serve earlier side stays s new.since wanted old.side end new.side served.events served.transcript))
-    (ap (λ (h : History). earlier ++ h) same ∙ sym all) (serves_are_lives side stays s earlier knows base wanted old end new counts served);
+      (ap (λ (h : History). earlier ++ h) same ∙ sym all) (serves_are_lives side stays s earlier knows base wanted old end new counts served);
 }

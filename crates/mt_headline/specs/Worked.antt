@@ -1,5 +1,5 @@
 -- A worked chain: a session of two messages whose disk is gone after the first reply, and the next run, which is asked the second message again. And runs that are no chain.
-use Rattle.std.specs.Prelude.{◌≡◌, ℕ, List, [], ◌∷◌, codes, Some}
+use Rattle.std.specs.Prelude.{◌≡◌, ℕ, [], ◌∷◌, codes, Some}
 use Rattle.mt_answer.specs.Whole.{answer_of}
 use Rattle.mt_disk.specs.Files.{Files}
 use Rattle.mt_headline.specs.Headline.{Chain, IsReplyOf, Life, Reply}
