@@ -14,8 +14,8 @@ use Rattle.mt_connection.specs.Transcript.{Exchange, IsTheAnswer, Run as Runs, S
 use Rattle.mt_connection.specs.declared.end.ConnectionEnd.{ConnectionEnd}
 use Rattle.mt_connection.specs.declared.end.ConnectionEnd.TheVariants as ended
 use Rattle.mt_disk.specs.Files.{Files}
-use Rattle.mt_headline.specs.Headline.{IsLife, IsReplyOf, Reply}
-use Rattle.mt_headline.specs.Runs.{CountsNow, IsServe, IsSession, LeavesLives, ServesAreLives, SessionsAreLives, cut_reply, halted_reply, if_written, last_reply, of_break, of_sink, replies_of, replies_of_connection, replies_of_events, replies_of_serve, replies_of_session, replies_of_worked, reply_over}
+use Rattle.mt_headline.specs.Headline.{Chain, IsLife, IsReplyOf, Life, Reply}
+use Rattle.mt_headline.specs.Runs.{ChainsGoOn, CountsNow, IsServe, IsSession, LeavesLives, NewStoresAreEmpty, ServesAreLives, SessionsAreLives, cut_reply, halted_reply, if_written, last_reply, of_break, of_sink, replies_of, replies_of_connection, replies_of_events, replies_of_serve, replies_of_session, replies_of_worked, reply_over}
 use Rattle.mt_http.specs.declared.message.Head.{Head}
 use Rattle.mt_lives.specs.Lives.{HasWhole}
 use Rattle.mt_model.proofs.Replays.{replay_on}
@@ -37,6 +37,8 @@ use Rattle.mt_server.specs.Statuses.{most_messages}
 use Rattle.mt_server.specs.declared.status.Status.{Status}
 use Rattle.mt_server.specs.declared.status.Status.TheVariants as status
 use Rattle.mt_runner.specs.Turning.{most_turns}
+use Rattle.mt_types.specs.declared.task.Raw.{Raw}
+use Rattle.mt_types.specs.declared.task.Run.{Run as TaskRun}
 
 both : {X : Type 0} → (P : X → Type 0) → (xs ys : List X) → AllByRecursion P xs → AllByRecursion P ys → AllByRecursion P (xs ++ ys)
 both P [] ys all more = more
@@ -266,4 +268,23 @@ is_serve side stays s earlier rest before knows base all wanted old end new same
   served = served;
   lives = subst (λ (h : History). LeavesLives s.login s.runs h new.images (replies_of_serve earlier side stays s new.since wanted old.side end new.side served.events served.transcript))
       (ap (λ (h : History). earlier ++ h) same ∙ sym all) (serves_are_lives side stays s earlier knows base wanted old end new counts served);
+}
+
+-- ---- chains of runs
+
+module _ (login : Bytes) (gives : TaskRun → Bytes → Raw → Type 0) where
+  goes_on : (a b : History) (ls : List Life) (l : Life) → Chain login gives a ls b → IsLife login gives b l → Chain login gives a (ls ++ l ∷ []) l.after
+  goes_on a b [] l is life = (subst (λ (h : History). IsLife login gives h l) is life, refl)
+  goes_on a b (x ∷ ls) l is life = (is.0, goes_on x.after b ls l is.1 life)
+
+  pub chains_go_on : ChainsGoOn login gives
+  chains_go_on ls before l is life = goes_on [] before ls l is life
+
+pub new_stores_are_empty : NewStoresAreEmpty
+unfolding replay
+new_stores_are_empty = record {
+  earlier = [];
+  rest = [];
+  has = record { ps = []; read = refl; fit = λ none. omega arith; is = record { front = []; rest = []; split = refl; begins = (refl, refl); leads = refl } };
+  all = refl;
 }

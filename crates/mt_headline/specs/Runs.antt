@@ -8,11 +8,12 @@ use Rattle.mt_connection.specs.Transcript.{Exchange, Setting, commands_of, growt
 use Rattle.mt_connection.specs.declared.end.ConnectionEnd.{ConnectionEnd}
 use Rattle.mt_connection.specs.declared.end.ConnectionEnd.TheVariants as ended
 use Rattle.mt_disk.specs.Files.{Files}
-use Rattle.mt_headline.specs.Headline.{IsLife, Reply}
+use Rattle.mt_headline.specs.Headline.{Chain, IsLife, Life, Reply}
 use Rattle.mt_http.specs.declared.message.Head.{Head}
+use Rattle.mt_lives.specs.Lives.{HasWhole}
 use Rattle.mt_model.specs.CommandStep.{replay}
 use Rattle.mt_model.specs.State.{first_state}
-use Rattle.mt_opening.specs.History.{Bytes, History}
+use Rattle.mt_opening.specs.History.{Bytes, HasHistory, History}
 use Rattle.mt_runner.specs.Account.{AccountSide}
 use Rattle.mt_server.specs.Events.{DrainsBehind, Event, Events, Had, Woke, on_link}
 use Rattle.mt_server.specs.Guarantees.{HasRun, HasServed, Scene, Serve, Session, Shop, Visited, Worked}
@@ -141,3 +142,13 @@ pub record IsSession (s : Setting) (earlier before : History) (old : Scene Sides
 pub record IsServe {L : Type 0} (side : L → LinkSide) (stays : L → L → Type 0) (s : Setting) (earlier before : History) (wanted : ℕ) (old : Scene (Shop L)) (end : Status) (new : Scene (Shop L)) : Type 0 where
   pub served : HasServed side stays s wanted old end new
   pub lives : LeavesLives s.login s.runs before new.images (replies_of_serve earlier side stays s new.since wanted old.side end new.side served.events served.transcript)
+
+-- ---- chains of runs
+
+-- a run more, on what the run before it left
+abbrev pub ChainsGoOn : Bytes → (Run → Bytes → Raw → Type 0) → Type 0
+ChainsGoOn login gives = (ls : List Life) (before : History) (l : Life) → Chain login gives [] ls before → IsLife login gives before l → Chain login gives [] (ls ++ l ∷ []) l.after
+
+-- a new store, whose files are empty, has no command
+abbrev pub NewStoresAreEmpty : Type 0
+NewStoresAreEmpty = HasWhole HasHistory [] (record { head = []; one = []; two = [] })

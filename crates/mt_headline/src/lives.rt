@@ -5,12 +5,12 @@ ghost use Rattle.mt_connection.specs.Sides.{joined, link_side, side_of};
 ghost use Rattle.mt_connection.specs.Transcript.{setting};
 ghost use Rattle.mt_disk.specs.CrashModel.{IsAtRest};
 ghost use Rattle.mt_disk.specs.Files.{Files};
-ghost use Rattle.mt_headline.specs.Runs.{IsServe, IsSession};
+ghost use Rattle.mt_headline.specs.Runs.{ChainsGoOn, IsServe, IsSession, NewStoresAreEmpty};
 ghost use Rattle.mt_lives.specs.Lives.{HasWhole};
 ghost use Rattle.mt_log.specs.LogImage.{Fit};
 ghost use Rattle.mt_model.specs.CommandStep.{replay};
 ghost use Rattle.mt_model.specs.State.{first_state};
-ghost use Rattle.mt_opening.specs.History.{HasHistory, History};
+ghost use Rattle.mt_opening.specs.History.{Bytes, HasHistory, History};
 ghost use Rattle.mt_runner.specs.Account.{account_side, tasks_of, told_time};
 ghost use Rattle.mt_server.specs.Events.{door_side, size_of};
 ghost use Rattle.mt_server.specs.Guarantees.{scene, shop};
@@ -60,3 +60,10 @@ pub fn mantad_is_a_life<S: Source, K: Sink, D: Disk, P: Spawner, C: Clock, W: Do
 {
     mantad(alloc, words, source, sink, disk, spawner, clock, door)
 }
+
+/// A run on what the run before it left is one more life of the chain, which begins with a new store: its files are empty, and it has no
+/// command.
+pub fn chains_go_on<P: Spawner>()
+    ensures next { (children : P.Rule) (login : Bytes) → ChainsGoOn login (P.gives children) }
+    ensures first { NewStoresAreEmpty }
+{}
